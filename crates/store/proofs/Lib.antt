@@ -1,0 +1,1 @@
+-- Proofs on the manager over a row of words.

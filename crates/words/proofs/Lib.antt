@@ -1,0 +1,3 @@
+-- Lemmas on the words of headers and references.
+pub mod HeaderLaws
+pub mod ReferenceLaws
