@@ -2,3 +2,4 @@
 pub mod Cells
 pub mod Sound
 pub mod Marks
+pub mod Examples

@@ -1,1 +1,3 @@
--- Proofs on the manager over a row of words.
+-- Lemmas on what the manager finds in a sound row.
+pub mod Finding
+pub mod Wiping

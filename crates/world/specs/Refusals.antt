@@ -9,6 +9,7 @@ use Rattle.world.specs.Script.{Answer, told}
 
 abbrev pub answer-of : Told → Answer
 answer-of t = told (t .code) (t .val)
+
 abbrev pub said : Result ℕ Refusal → Answer
 said (Ok v) = told 1 v
 said (Err Full) = told 0 0

@@ -1,0 +1,2 @@
+-- The calls on the manager: what each does.
+pub mod Acts

@@ -1,0 +1,2 @@
+-- Proofs on collections.
+pub mod Free

@@ -1,0 +1,2 @@
+-- What a collection leaves.
+pub mod Collected

@@ -1,0 +1,1 @@
+-- What the driver of scripts promises.

@@ -1,0 +1,3 @@
+-- Proofs on the manager's calls.
+pub mod Arms
+pub mod Scripts

@@ -1,0 +1,2 @@
+-- What the manager promises: one call, and a whole script.
+pub mod Says

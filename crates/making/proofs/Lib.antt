@@ -1,0 +1,2 @@
+-- Proofs on making.
+pub mod Making

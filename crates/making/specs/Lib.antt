@@ -1,0 +1,2 @@
+-- What making an object leaves.
+pub mod Reserved

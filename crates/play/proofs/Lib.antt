@@ -1,0 +1,1 @@
+-- Proofs of the program that plays a script on the manager.
