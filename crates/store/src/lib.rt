@@ -7,6 +7,7 @@ mod objects;
 mod slots;
 
 pub use empty::fits;
+pub use empty::none_header;
 pub use empty::start;
 pub use manager::Manager;
 pub use objects::Object;

@@ -1,0 +1,2 @@
+-- What is asked of a row before it is looked through.
+pub mod Walkable
