@@ -25,6 +25,3 @@ pub use read::read_line;
 pub use theorems::calls_are_read_back;
 pub use theorems::calls_are_read_exactly;
 pub use theorems::heap_sizes_are_read_exactly;
-
-#[cfg(test)]
-mod tests;

@@ -28,6 +28,3 @@ pub trait Words {
         requires { ⌜ i < length (row (now self)) ⌝ ∗ ⌜ touched (now self) < 9223372036854775808 ⌝ }
         ensures { λ _. ⌜ row (now (self .exit)) ≡ set (row (now (self .entry))) i x ⌝ ∗ ⌜ touched (now (self .exit)) ≡ touched (now (self .entry)) + 1 ⌝ };
 }
-
-#[cfg(test)]
-mod tests;

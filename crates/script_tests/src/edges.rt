@@ -1,12 +1,12 @@
 // Each call printed and read back, and each refusal once.
-use crate::CallText;
-use crate::CallTextDisplay;
-use crate::LineError;
-use crate::LineErrorDebug;
-use crate::LineErrorPartialEq;
-use crate::is_passed_over;
-use crate::read_call;
-use crate::read_heap_size;
+use script::CallText;
+use script::CallTextDisplay;
+use script::LineError;
+use script::LineErrorDebug;
+use script::LineErrorPartialEq;
+use script::is_passed_over;
+use script::read_call;
+use script::read_heap_size;
 use std::test::*;
 use world::Ask;
 use world::AskDebug;

@@ -1,17 +1,17 @@
 // The edges of headers and references, and what is counted.
-use crate::Words;
-use crate::header::Header;
-use crate::header::HeaderDebug;
-use crate::header::HeaderPartialEq;
-use crate::lent::Lent;
-use crate::lent::LentWords;
-use crate::names::Addr;
-use crate::reference::Reference;
-use crate::reference::ReferenceDebug;
-use crate::reference::ReferencePartialEq;
-use crate::traced::Traced;
-use crate::traced::TracedWords;
 use std::test::*;
+use words::Words;
+use words::header::Header;
+use words::header::HeaderDebug;
+use words::header::HeaderPartialEq;
+use words::lent::Lent;
+use words::lent::LentWords;
+use words::names::Addr;
+use words::reference::Reference;
+use words::reference::ReferenceDebug;
+use words::reference::ReferencePartialEq;
+use words::traced::Traced;
+use words::traced::TracedWords;
 
 #[test]
 fn full_header_comes_back() -> Result<(), Fail> {
