@@ -12,9 +12,9 @@ use std::alloc::Global;
 use std::test::*;
 use store::Manager;
 use store::fits;
+use traced::Traced;
+use traced::TracedWords;
 use words::Words;
-use words::traced::Traced;
-use words::traced::TracedWords;
 use world::Ask;
 use world::Told;
 

@@ -5,8 +5,8 @@ use std::alloc::Global;
 use std::test::*;
 use store::Manager;
 use store::start;
-use words::traced::Traced;
-use words::traced::TracedWords;
+use traced::Traced;
+use traced::TracedWords;
 
 // Is the row sound that start leaves of 70 words of 9 with three slots, once a word of it is another?
 fn sound_with(heap: Global, at: usize, word: u64) -> Result<bool, Fail>

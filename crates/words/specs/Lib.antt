@@ -1,4 +1,3 @@
--- The leaves of the manager: what single words say, as numbers, and what a trace is.
+-- The leaves of the manager: what single words say, as numbers.
 pub mod Header
 pub mod Reference
-pub mod Trace

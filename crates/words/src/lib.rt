@@ -9,7 +9,6 @@ pub mod header;
 pub mod lent;
 pub mod names;
 pub mod reference;
-pub mod traced;
 
 // A row of words. Whoever has it by this trait alone is counted, word by word.
 pub trait Words {

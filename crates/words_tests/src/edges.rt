@@ -1,5 +1,7 @@
 // The edges of headers and references, and what is counted.
 use std::test::*;
+use traced::Traced;
+use traced::TracedWords;
 use words::Words;
 use words::header::Header;
 use words::header::HeaderDebug;
@@ -10,8 +12,6 @@ use words::names::Addr;
 use words::reference::Reference;
 use words::reference::ReferenceDebug;
 use words::reference::ReferencePartialEq;
-use words::traced::Traced;
-use words::traced::TracedWords;
 
 #[test]
 fn full_header_comes_back() -> Result<(), Fail> {

@@ -6,9 +6,9 @@ ghost use mathlib.Core.List.{[]};
 ghost use mathlib.Core.Path.{_≡_};
 ghost use Prim.Native.Nat.{ℕ, _+_, _<_};
 ghost use Rattle.std.specs.Of.Vec.{vec-cap, vec-items, vec-len};
-ghost use Rattle.words.specs.Trace.{Noted};
-use crate::Words;
+ghost use Rattle.traced.specs.Trace.{Noted};
 use std::alloc::Global;
+use words::Words;
 
 // A row of words, how often one was touched, and which, in order. The trace is whole as long as there
 // was memory for it.

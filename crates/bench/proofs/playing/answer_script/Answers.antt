@@ -11,7 +11,7 @@ use Rattle.world.specs.World.{blank}
 use Rattle.world.specs.Script.{answers}
 use Rattle.world.specs.Says.{room}
 use Rattle.world.specs.Refusals.{answer-of}
-use Rattle.play.proofs.answer_script.Needs as need
+use Rattle.bench.proofs.playing.answer_script.Needs as need
 
 pub returns : need.returns
 returns c =

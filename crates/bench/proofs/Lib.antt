@@ -1,0 +1,3 @@
+-- Proofs on what the programs that measure and compare share.
+mod Bounds
+mod Sorting

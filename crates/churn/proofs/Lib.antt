@@ -1,0 +1,1 @@
+-- Proofs of the program that makes small objects and drops them.

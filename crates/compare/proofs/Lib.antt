@@ -1,0 +1,1 @@
+-- Proofs of the program that compares the manager with the plain world.

@@ -1,0 +1,1 @@
+-- Proofs of the program that counts the words touched.

@@ -1,0 +1,2 @@
+-- What a trace of touched words is.
+pub mod Trace
