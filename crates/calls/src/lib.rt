@@ -1,4 +1,6 @@
 // The calls that a mutator makes of the manager.
+#![tactic(auto)]
+
 
 mod arms;
 

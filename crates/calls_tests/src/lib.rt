@@ -1,4 +1,6 @@
 // Each call at the edges of its answers, and the words that it touches.
+#![tactic(auto)]
+
 
 #[cfg(test)]
 mod answers;

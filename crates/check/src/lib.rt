@@ -1,4 +1,6 @@
 // Is a row of words sound? It is decided by looking through the row alone, and the row stays as it is.
+#![tactic(auto)]
+
 ghost use Rattle.std.specs.Prelude.{◌≡◌, ℕ, ◌+◌, ◌*◌, ◌<◌, ◌≤◌, true, ◌&&◌, length, ◌==◌, nat_lt, slice_index};
 ghost use Rattle.layout.specs.Cells.{base, free_of, layout, number, seg};
 ghost use Rattle.layout.specs.Sound.{all_of, cell_ok, ends, none_header, reference_ok, root_header, sound};

@@ -1,4 +1,6 @@
 // Makes 100,000 small objects beside held ones, each dropped at once, and prints how many words that touches.
+#![tactic(auto)]
+
 ghost use Rattle.std.specs.Prelude.{◌≡◌, ◌+◌, ◌<◌, ◌≤◌, count_by, nat_lt};
 
 use anyhow::anyhow;

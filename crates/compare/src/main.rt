@@ -1,4 +1,6 @@
 // Plays scripts made at random on the manager and on the plain world, prints where their answers differ, and counts the answers.
+#![tactic(auto)]
+
 ghost use Rattle.std.specs.Prelude.{◌≤◌, max};
 
 use anyhow::anyhow;

@@ -1,4 +1,6 @@
 // What the programs that play a script share: playing it line by line or reading it whole, printing its answers, and saying in which line a fault is.
+#![tactic(auto)]
+
 mod fault;
 mod lines;
 mod machine;

@@ -1,4 +1,6 @@
 // Rows that walks have gone wrong on: each is marked, and what came of it is looked at word by word.
+#![tactic(auto)]
+
 ghost use Rattle.std.specs.Prelude.{vec_len};
 ghost use Rattle.marking_tests.specs.Rows.{Within};
 

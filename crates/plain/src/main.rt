@@ -1,4 +1,6 @@
 // Plays a script on the plain world: the answers on standard output, a fault on standard error with its line.
+#![tactic(auto)]
+
 ghost use Rattle.std.specs.Prelude.{IfOk};
 ghost use Rattle.world.specs.View.{Kept};
 

@@ -1,4 +1,6 @@
 // Plays a script on the memory manager: the answers on standard output, a fault on standard error with its line.
+#![tactic(auto)]
+
 ghost use Rattle.driver.specs.Playing.{Answered};
 
 use bench::answer_script;

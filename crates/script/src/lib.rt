@@ -1,4 +1,6 @@
 // The text of scripts: a call is a line such as `New 0 2 1`, an answer is `CODE NUMBER`, and the first line is `WORDS SLOTS`.
+#![tactic(auto)]
+
 mod error;
 mod numbers;
 mod print;

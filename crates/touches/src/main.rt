@@ -1,4 +1,6 @@
 // Plays a script on the memory manager and prints how many words each call touches; with --summary also what each kind of call touches.
+#![tactic(auto)]
+
 use bench::{Kind, Tally, touch_script};
 use driver::{Fault, Script, read_script, report};
 use std::io::{BufWriter, Stdout, Write};

@@ -1,4 +1,6 @@
 // Words of its own that keep a trace, for tests and measurements.
+#![tactic(auto)]
+
 ghost use Rattle.std.specs.Prelude.{◌≡◌, ℕ, ◌+◌, ◌<◌, true, [], length, vec_len, vec_capacity};
 ghost use Rattle.traced.specs.Trace.{Noted};
 

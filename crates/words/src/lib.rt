@@ -1,4 +1,6 @@
 // The leaves of the manager: a row of words that counts what is touched, and what single words say.
+#![tactic(auto)]
+
 ghost use Rattle.std.specs.Prelude.{◌≡◌, ℕ, ◌+◌, ◌<◌, List, length, slice_index, slice_set};
 ghost use Rattle.std.specs.Borrow.{GName};
 

@@ -1,4 +1,5 @@
 // What a mutator asks and is told, the plain world that answers, and the theorems on worlds.
+#![tactic(auto)]
 
 mod laws;
 mod object;

@@ -45,8 +45,8 @@ returns-then-header-ne0 g c =
       touches = omega arith;
     }
 
-pub are-references-requires : goal.are-references-requires
-are-references-requires g c =
+pub are_references-requires : goal.are_references-requires
+are_references-requires g c =
     let i = c.loop-at.invariant in
     let k = c.header-header.ensures in
     let h = c.header-header.result in
@@ -56,11 +56,11 @@ are-references-requires g c =
     let s = object_within c.loop-at.at h.places h.words c.args.free (1 + c.args.free) (omega arith) o in
     record { walkable = walkable_still _ _ _ _ _ c.requires.walkable (k.same ∙ i.0) (k.slots ∙ i.1); within = omega arith; few = omega arith }
 
-pub returns-then-not-are-references : goal.returns-then-not-are-references
-returns-then-not-are-references g c =
+pub returns-then-not-are_references : goal.returns-then-not-are_references
+returns-then-not-are_references g c =
     let i = c.loop-at.invariant in
     let k = c.header-header.ensures in
-    let r = c.if-not-are-references.ensures in
+    let r = c.if-not-are_references.ensures in
     let h = c.header-header.result in
     let o = object_ends _ _ _ _ h c.loop-at-test.true i.3 i.0 k.value in
     let s = object_within c.loop-at.at h.places h.words c.args.free (1 + c.args.free) (omega arith) o in
@@ -76,7 +76,7 @@ pub loop-at-preserved : goal.loop-at-preserved
 loop-at-preserved g c =
     let i = c.loop-at.invariant in
     let k = c.header-header.ensures in
-    let r = c.if-not-are-references.ensures in
+    let r = c.if-not-are_references.ensures in
     let h = c.header-header.result in
     let o = object_ends _ _ _ _ h c.loop-at-test.true i.3 i.0 k.value in
     let s = object_within c.loop-at.at h.places h.words c.args.free (1 + c.args.free) (omega arith) o in

@@ -4,23 +4,23 @@ use Rattle.check.proofs.Sums.{step_up, step_within}
 use Rattle.check.proofs.Judging.{walkable_still, word_false, word_true}
 use Rattle.check.proofs.are_references.Goals as goal
 
-pub is-reference-requires : goal.is-reference-requires
-is-reference-requires g c =
+pub is_reference-requires : goal.is_reference-requires
+is_reference-requires g c =
     let i = c.loop-i.invariant in
     let e = ap length i.0 in
     let s = step_within c.loop-i.i c.args.count (1 + c.args.free) c.loop-i-test.true in
     record { walkable = walkable_still _ _ _ _ _ c.requires.walkable i.0 i.1; within = omega arith; few = omega arith }
 
-pub returns-then-not-is-reference : goal.returns-then-not-is-reference
-returns-then-not-is-reference g c =
+pub returns-then-not-is_reference : goal.returns-then-not-is_reference
+returns-then-not-is_reference g c =
     let i = c.loop-i.invariant in
-    let k = c.if-not-is-reference.ensures in
+    let k = c.if-not-is_reference.ensures in
     let s = step_within c.loop-i.i c.args.count (1 + c.args.free) c.loop-i-test.true in
     record { value = word_false _ _ _ _ _ _ _ _ c.loop-i-test.true i.0 i.1 i.3 k.value; same = k.same ∙ i.0; slots = k.slots ∙ i.1; lender = k.lender ∙ i.4; touches = omega arith }
 
 pub loop-i-preserved : goal.loop-i-preserved
 loop-i-preserved g c =
     let i = c.loop-i.invariant in
-    let k = c.if-not-is-reference.ensures in
+    let k = c.if-not-is_reference.ensures in
     let s = step_up c.loop-i.i (1 + c.args.free) in
     (k.same ∙ i.0, k.slots ∙ i.1, omega arith, word_true _ _ _ _ _ _ _ _ c.loop-i-test.true i.0 i.1 i.3 k.value, k.lender ∙ i.4)

@@ -6,16 +6,16 @@ use Rattle.check.proofs.Judging.{walkable_still}
 use Rattle.check.proofs.Verdicts.{unsound_0, unsound_2, unsound_3, unsound_4, ends_is, objects_are, references_are, sound_by_slots, ends_after, covers}
 use Rattle.check.proofs.is_sound.Goals as goal
 
-pub returns-then-not-has-sentinels : goal.returns-then-not-has-sentinels
-returns-then-not-has-sentinels g c =
-    let k = c.if-not-has-sentinels.ensures in
+pub returns-then-not-has_sentinels : goal.returns-then-not-has_sentinels
+returns-then-not-has_sentinels g c =
+    let k = c.if-not-has_sentinels.ensures in
     let n = length (g.W.Words.row c.args.m.now.words) in
     let v = (covers 0 n (omega arith)).0 in
     record { value = unsound_0 _ _ k.value; same = k.same; slots = k.slots; lender = k.lender; touches = omega arith }
 
 pub returns-then-free-count : goal.returns-then-free-count
 returns-then-free-count g c =
-    let k = c.if-not-has-sentinels.ensures in
+    let k = c.if-not-has_sentinels.ensures in
     let f = c.free-free.ensures in
     let n = length (g.W.Words.row c.args.m.now.words) in
     let v = (covers 0 n (omega arith)).0 in
@@ -25,7 +25,7 @@ returns-then-free-count g c =
 
 pub tiles-requires : goal.tiles-requires
 tiles-requires g c =
-    let k = c.if-not-has-sentinels.ensures in
+    let k = c.if-not-has_sentinels.ensures in
     let f = c.free-free.ensures in
     let n = length (g.W.Words.row c.args.m.now.words) in
     let v = (covers 0 n (omega arith)).0 in
@@ -38,7 +38,7 @@ tiles-requires g c =
 
 pub returns-then-not-tiles : goal.returns-then-not-tiles
 returns-then-not-tiles g c =
-    let k = c.if-not-has-sentinels.ensures in
+    let k = c.if-not-has_sentinels.ensures in
     let f = c.free-free.ensures in
     let t = c.if-not-tiles.ensures in
     let n = length (g.W.Words.row c.args.m.now.words) in
@@ -53,9 +53,9 @@ returns-then-not-tiles g c =
       touches = omega arith;
     }
 
-pub are-objects-requires : goal.are-objects-requires
-are-objects-requires g c =
-    let k = c.if-not-has-sentinels.ensures in
+pub are_objects-requires : goal.are_objects-requires
+are_objects-requires g c =
+    let k = c.if-not-has_sentinels.ensures in
     let f = c.free-free.ensures in
     let t = c.if-not-tiles.ensures in
     let n = length (g.W.Words.row c.args.m.now.words) in
@@ -69,12 +69,12 @@ are-objects-requires g c =
       few = omega arith;
     }
 
-pub returns-then-not-are-objects : goal.returns-then-not-are-objects
-returns-then-not-are-objects g c =
-    let k = c.if-not-has-sentinels.ensures in
+pub returns-then-not-are_objects : goal.returns-then-not-are_objects
+returns-then-not-are_objects g c =
+    let k = c.if-not-has_sentinels.ensures in
     let f = c.free-free.ensures in
     let t = c.if-not-tiles.ensures in
-    let o = c.if-not-are-objects.ensures in
+    let o = c.if-not-are_objects.ensures in
     let n = length (g.W.Words.row c.args.m.now.words) in
     let e = ap length (f.same ∙ k.same) in
     let v = (covers c.free-free.result n (omega arith)).1 (omega arith) in
@@ -87,18 +87,18 @@ returns-then-not-are-objects g c =
       touches = omega arith;
     }
 
-pub are-references-requires : goal.are-references-requires
-are-references-requires g c =
-    let k = c.if-not-has-sentinels.ensures in
+pub are_references-requires : goal.are_references-requires
+are_references-requires g c =
+    let k = c.if-not-has_sentinels.ensures in
     let f = c.free-free.ensures in
     let t = c.if-not-tiles.ensures in
-    let o = c.if-not-are-objects.ensures in
+    let o = c.if-not-are_objects.ensures in
     let n = length (g.W.Words.row c.args.m.now.words) in
     let e = ap length (f.same ∙ k.same) in
     let r : c.free-free.result ≡ free_of (g.W.Words.row c.args.m.now.words) = f.value ∙ ap free_of k.same in
     let v = (covers c.free-free.result n (omega arith)).1 (omega arith) in
     let s = o.slots ∙ t.slots ∙ f.slots ∙ k.slots in
-    let p : c.are-objects.new.m.slots * (1 + c.free-free.result) ≡ c.tiles.new.m.slots * (1 + c.free-free.result) = ap (λ (x : ℕ). x * (1 + c.free-free.result)) o.slots in
+    let p : c.are_objects.new.m.slots * (1 + c.free-free.result) ≡ c.tiles.new.m.slots * (1 + c.free-free.result) = ap (λ (x : ℕ). x * (1 + c.free-free.result)) o.slots in
     let e2 = ap length (o.same ∙ t.same ∙ f.same ∙ k.same) in
     record {
       walkable = walkable_still _ _ _ _ _ (record { fits = c.requires.fits; short = c.requires.short; free_is = r; within = omega arith }) (o.same ∙ t.same ∙ f.same ∙ k.same) s;
@@ -108,15 +108,15 @@ are-references-requires g c =
 
 pub returns : goal.returns
 returns g c =
-    let k = c.if-not-has-sentinels.ensures in
+    let k = c.if-not-has_sentinels.ensures in
     let f = c.free-free.ensures in
     let t = c.if-not-tiles.ensures in
-    let o = c.if-not-are-objects.ensures in
-    let a = c.are-references.ensures in
+    let o = c.if-not-are_objects.ensures in
+    let a = c.are_references.ensures in
     let n = length (g.W.Words.row c.args.m.now.words) in
     let e = ap length (f.same ∙ k.same) in
     let r : c.free-free.result ≡ free_of (g.W.Words.row c.args.m.now.words) = f.value ∙ ap free_of k.same in
-    let p : c.are-objects.new.m.slots * (1 + c.free-free.result) ≡ c.tiles.new.m.slots * (1 + c.free-free.result) = ap (λ (x : ℕ). x * (1 + c.free-free.result)) o.slots in
+    let p : c.are_objects.new.m.slots * (1 + c.free-free.result) ≡ c.tiles.new.m.slots * (1 + c.free-free.result) = ap (λ (x : ℕ). x * (1 + c.free-free.result)) o.slots in
     let v = (covers c.free-free.result n (omega arith)).1 (omega arith) in
     record {
       value = sound_by_slots _ _ _ k.value (omega arith)

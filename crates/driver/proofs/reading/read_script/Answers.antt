@@ -6,11 +6,11 @@ use Rattle.driver.proofs.reading.read_script.Goals as goal
 
 pub returns : goal.returns
 returns c =
-    let lines = c.as-slice.result.now in
-    let input = c.input-lines-input.result in
+    let lines = c.as_slice.result.now in
+    let input = c.input_lines-input.result in
     record {
       lines = map string_bytes lines;
       input = input;
-      ends = subst (λ (n : ℕ). EndsBehind n input) (sym (length_map lines string_bytes ∙ c.as-slice.ensures.len)) c.input-lines-input.ensures;
+      ends = subst (λ (n : ℕ). EndsBehind n input) (sym (length_map lines string_bytes ∙ c.as_slice.ensures.len)) c.input_lines-input.ensures;
       says = c.script_of.ensures;
     }

@@ -6,4 +6,4 @@ use Rattle.pagzimul.proofs.Answered.{calls_as}
 use Rattle.pagzimul.proofs.calling.pagzimul_clear.Goals as goal
 
 pub returns : goal.returns
-returns c = calls_as (Clear c.index.result) (Clear (min c.args.t 65535)) (Clear c.args.t) _ _ _ _ c.requires (cc) (λ n d. wide_clear n _ _ d) c.run-on.ensures
+returns c = calls_as (Clear c.index.result) (Clear (min c.args.t 65535)) (Clear c.args.t) _ _ _ _ c.requires (cc) (λ n d. wide_clear n _ _ d) c.run_on.ensures

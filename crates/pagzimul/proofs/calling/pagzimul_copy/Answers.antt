@@ -6,4 +6,4 @@ use Rattle.pagzimul.proofs.Answered.{calls_as}
 use Rattle.pagzimul.proofs.calling.pagzimul_copy.Goals as goal
 
 pub returns : goal.returns
-returns c = calls_as (Copy c.index.result c.index-2.result) (Copy (min c.args.t 65535) (min c.args.s 65535)) (Copy c.args.t c.args.s) _ _ _ _ c.requires (cc) (λ n d. wide_copy n _ _ _ d) c.run-on.ensures
+returns c = calls_as (Copy c.index.result c.index-2.result) (Copy (min c.args.t 65535) (min c.args.s 65535)) (Copy c.args.t c.args.s) _ _ _ _ c.requires (cc) (λ n d. wide_copy n _ _ _ d) c.run_on.ensures

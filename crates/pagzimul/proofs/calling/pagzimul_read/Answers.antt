@@ -6,4 +6,4 @@ use Rattle.pagzimul.proofs.Answered.{calls_as}
 use Rattle.pagzimul.proofs.calling.pagzimul_read.Goals as goal
 
 pub returns : goal.returns
-returns c = calls_as (Read c.index.result c.index-2.result) (Read (min c.args.s 65535) (min c.args.i 65535)) (Read c.args.s c.args.i) _ _ _ _ c.requires (cc) (λ n d. wide_read n _ _ _ d) c.run-on.ensures
+returns c = calls_as (Read c.index.result c.index-2.result) (Read (min c.args.s 65535) (min c.args.i 65535)) (Read c.args.s c.args.i) _ _ _ _ c.requires (cc) (λ n d. wide_read n _ _ _ d) c.run_on.ensures

@@ -6,4 +6,4 @@ use Rattle.pagzimul.proofs.Answered.{calls_as}
 use Rattle.pagzimul.proofs.calling.pagzimul_same.Goals as goal
 
 pub returns : goal.returns
-returns c = calls_as (Same c.index.result c.index-2.result) (Same (min c.args.s 65535) (min c.args.t 65535)) (Same c.args.s c.args.t) _ _ _ _ c.requires (cc) (λ n d. wide_same n _ _ _ d) c.run-on.ensures
+returns c = calls_as (Same c.index.result c.index-2.result) (Same (min c.args.s 65535) (min c.args.t 65535)) (Same c.args.s c.args.t) _ _ _ _ c.requires (cc) (λ n d. wide_same n _ _ _ d) c.run_on.ensures

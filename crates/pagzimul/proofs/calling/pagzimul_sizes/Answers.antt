@@ -6,4 +6,4 @@ use Rattle.pagzimul.proofs.Answered.{calls_as}
 use Rattle.pagzimul.proofs.calling.pagzimul_sizes.Goals as goal
 
 pub returns : goal.returns
-returns c = calls_as (Sizes c.index.result) (Sizes (min c.args.s 65535)) (Sizes c.args.s) _ _ _ _ c.requires (cc) (λ n d. wide_sizes n _ _ d) c.run-on.ensures
+returns c = calls_as (Sizes c.index.result) (Sizes (min c.args.s 65535)) (Sizes c.args.s) _ _ _ _ c.requires (cc) (λ n d. wide_sizes n _ _ d) c.run_on.ensures

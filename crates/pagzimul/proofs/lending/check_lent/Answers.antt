@@ -3,5 +3,5 @@ use Rattle.std.proofs.Common.{◌+◌, ◌*◌, length, arith, rules}
 use Rattle.pagzimul.proofs.Answered.{squares}
 use Rattle.pagzimul.proofs.lending.check_lent.Goals as goal
 
-pub is-sound-sound-requires : goal.is-sound-sound-requires
-is-sound-sound-requires c = let q = squares (length c.args.lent.now.words.now) c.requires.few in search rules
+pub is_sound-sound-requires : goal.is_sound-sound-requires
+is_sound-sound-requires c = let q = squares (length c.args.lent.now.words.now) c.requires.few in search rules

@@ -11,10 +11,10 @@ not_not : (t u : Bool) → u ≡ not t → t ≡ not u
 not_not true u e = sym (ap not e)
 not_not false u e = sym (ap not e)
 
-pub returns-else-starts-with : goal.returns-else-starts-with
-returns-else-starts-with c =
+pub returns-else-starts_with : goal.returns-else-starts_with
+returns-else-starts_with c =
     let line = c.args.line.now in
-    let d = starts_char 35 line c.starts-with.result c.starts-with.ensures.cases (omega arith) (omega arith) in
-    let e : eqb (get_or line 0 0) 35 ≡ false = ne_eqb _ _ (λ h. both_ways c.starts-with.result c.if-starts-with.false (d.1 h)) in
-    let n : none_of (tokens c.body.result.now) ≡ c.is-none.result = none_from_split c.split-token.result _ c.split-token.ensures ∙ sym (not_not _ _ c.is-none.ensures) in
+    let d = starts_char 35 line c.starts_with.result c.starts_with.ensures.cases (omega arith) (omega arith) in
+    let e : eqb (get_or line 0 0) 35 ≡ false = ne_eqb _ _ (λ h. both_ways c.starts_with.result c.if-starts_with.false (d.1 h)) in
+    let n : none_of (tokens c.body.result.now) ≡ c.is_none.result = none_from_split c.split_token.result _ c.split_token.ensures ∙ sym (not_not _ _ c.is_none.ensures) in
     rw e (sym n ∙ ap (λ l. none_of (tokens l)) c.body.ensures)

@@ -3,10 +3,10 @@ use Rattle.std.proofs.Common.{codes, sym}
 use Rattle.script.proofs.Names.{differs}
 use Rattle.script.proofs.read.named_call.Goals as goal
 
-pub returns-in-default : goal.returns-in-default
-returns-in-default c =
+pub returns-in_default : goal.returns-in_default
+returns-in_default c =
     let n = c.args.name.now in
-    let k = c.in-default in
+    let k = c.in_default in
     rw (
       differs n (codes "New") k.not-New,
       differs n (codes "Get") k.not-Get,

@@ -10,22 +10,22 @@ pub loop-before-preserved : goal.loop-before-preserved
 loop-before-preserved c =
     let lines = c.args.lines.now in
     let i = c.loop-before.before in
-    let line = c.as-str.result.now in
+    let line = c.as_str.result.now in
     let h : i < length lines = omega arith in
     let short : i < length (map string_bytes lines) = omega (arith, length_map lines string_bytes) in
-    let at = line_at string_bytes lines i c.index-lines-before.result line h c.index-lines-before.is c.as-str.ensures.value in
-    after_more (so_far c.args.self.now) (so_far c.loop-before.self) (so_far c.take-line.new.self) (map string_bytes lines) i line short at c.loop-before.invariant c.in-ok-take-line.ensures
+    let at = line_at string_bytes lines i c.index-lines-before.result line h c.index-lines-before.is c.as_str.ensures.value in
+    after_more (so_far c.args.self.now) (so_far c.loop-before.self) (so_far c.take_line.new.self) (map string_bytes lines) i line short at c.loop-before.invariant c.in_ok-take_line.ensures
 
-pub returns-in-err-take-line : goal.returns-in-err-take-line
-returns-in-err-take-line c =
+pub returns-in_err-take_line : goal.returns-in_err-take_line
+returns-in_err-take_line c =
     let lines = c.args.lines.now in
     let i = c.loop-before.before in
-    let line = c.as-str.result.now in
+    let line = c.as_str.result.now in
     let h : i < length lines = omega arith in
     let short : i < length (map string_bytes lines) = omega (arith, length_map lines string_bytes) in
-    let at = line_at string_bytes lines i c.index-lines-before.result line h c.index-lines-before.is c.as-str.ensures.value in
+    let at = line_at string_bytes lines i c.index-lines-before.result line h c.index-lines-before.is c.as_str.ensures.value in
     let p = err_from_is_err_and c.from-residual.result c.from-residual.ensures.1 in
-    rw (p.1, p.2) (stops_here (so_far c.args.self.now) (so_far c.loop-before.self) (so_far c.take-line.new.self) (map string_bytes lines) i line c.in-err-take-line.field-0.0 short at c.loop-before.invariant c.in-err-take-line.ensures)
+    rw (p.1, p.2) (stops_here (so_far c.args.self.now) (so_far c.loop-before.self) (so_far c.take_line.new.self) (map string_bytes lines) i line c.in_err-take_line.field-0.0 short at c.loop-before.invariant c.in_err-take_line.ensures)
 
 pub returns : goal.returns
 returns c =
