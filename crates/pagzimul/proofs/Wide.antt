@@ -1,7 +1,7 @@
 -- In the world of a row a number that is too large is answered as the last of 16 bits: neither is a slot, a place or a word.
 use Rattle.std.proofs.Common.{◌≡◌, ℕ, zero, suc, ◌+◌, ◌*◌, ◌<◌, ◌≤◌, min, true, eqb, ◌⊎◌, List, map, length, get_or, sym, refl, ap, ◌∙◌, subst, inl, inr, arith}
 use mathlib.Core.Option.{Option, some, none}
-use lib.ListN.{length_map}
+use lib.ListN.{length-map}
 use Rattle.std.proofs.lemmas.Bool.{cases_lt}
 use Rattle.world.specs.declared.Ask.{Ask}
 use Rattle.world.specs.declared.Ask.TheVariants.{New, Get, Set, Read, Write, Copy, Clear, Same, Sizes}
@@ -22,7 +22,7 @@ pub record Narrow (w : World) : Type 0 where
 
 narrow_object : (row : List ℕ) (cs : List Cell) (c : Cell) → c.places ≤ 65535 → c.count ≤ 65535 → (length (object cs row c).refs ≤ 65535) × (length (object cs row c).words ≤ 65535)
 narrow_object row cs c p n =
-    (omega (arith, length_map (seg row (c.start + 2) c.places) (target cs), length_seg row (c.start + 2) c.places), omega (arith, length_seg row (c.start + 2 + c.places) c.count))
+    (omega (arith, length-map (seg row (c.start + 2) c.places) (target cs), length_seg row (c.start + 2) c.places), omega (arith, length_seg row (c.start + 2 + c.places) c.count))
 
 narrow_found : (slots : ℕ) (row : List ℕ) → sound slots row ≡ true → (a : ℕ) (o : Obj) → obj_at (world_at slots (layout slots row) row) a ≡ some o → (length o.refs ≤ 65535) × (length o.words ≤ 65535)
 narrow_found slots row ok zero o e = absurd (none_some e)
@@ -36,7 +36,7 @@ narrow_found slots row ok (suc n) o e =
 narrow_at : (slots : ℕ) (row : List ℕ) → slots < 65536 → sound slots row ≡ true → Narrow (world_at slots (layout slots row) row)
 narrow_at slots row l ok =
     let cs = layout slots row in
-    record { slots = omega (arith, length_map (seg row 64 slots) (target cs), length_seg row 64 slots); objects = narrow_found slots row ok }
+    record { slots = omega (arith, length-map (seg row 64 slots) (target cs), length_seg row 64 slots); objects = narrow_found slots row ok }
 
 pub narrow_of : (slots : ℕ) (row : List ℕ) → slots < 65536 → sound slots row ≡ true → Narrow (world_of slots row)
 narrow_of slots row l ok = subst (λ (w : World). Narrow w) (sym (heap_world slots row (layout slots row) (heap_of slots row ok))) (narrow_at slots row l ok)

@@ -1,6 +1,6 @@
 -- The lines are those of the input, as many as were read.
 use Rattle.std.proofs.Common.{ℕ, map, string_bytes, sym, ◌∙◌, subst}
-use Rattle.std.proofs.lemmas.List.{length_map}
+use Rattle.std.proofs.lemmas.List.{length-map}
 use Rattle.driver.specs.Reading.{EndsBehind}
 use Rattle.driver.proofs.reading.read_script.Goals as goal
 
@@ -11,6 +11,6 @@ returns c =
     record {
       lines = map string_bytes lines;
       input = input;
-      ends = subst (λ (n : ℕ). EndsBehind n input) (sym (length_map lines string_bytes ∙ c.as_slice.ensures.len)) c.input_lines-input.ensures;
+      ends = subst (λ (n : ℕ). EndsBehind n input) (sym (length-map lines string_bytes ∙ c.as_slice.ensures.len)) c.input_lines-input.ensures;
       says = c.script_of.ensures;
     }

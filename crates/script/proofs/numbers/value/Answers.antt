@@ -6,7 +6,7 @@ use Rattle.script.proofs.numbers.value.Goals as goal
 pub returns-in_err-checked_mul : goal.returns-in_err-checked_mul
 returns-in_err-checked_mul c =
     value_large c.args.digits.now c.loop-digit.digit-index c.loop-digit.n _ (omega arith) c.loop-digit.invariant.1
-    (omega (arith, c.in_err-checked_mul.ensures)) c.from-residual.ensures
+    (omega (arith, c.in_err-checked_mul.ensures)) c.from_residual.ensures
 
 pub overflow_sub-digit : goal.overflow_sub-digit
 overflow_sub-digit c = digit_least c.args.digits.now c.loop-digit.digit-index (omega arith) c.loop-digit.invariant.2
@@ -14,7 +14,7 @@ overflow_sub-digit c = digit_least c.args.digits.now c.loop-digit.digit-index (o
 pub returns-in_err-n : goal.returns-in_err-n
 returns-in_err-n c =
     value_large c.args.digits.now c.loop-digit.digit-index c.loop-digit.n _ (omega arith) c.loop-digit.invariant.1
-    (omega (arith, c.in_ok-checked_mul.ensures, c.in_err-n.ensures, c.from.ensures)) c.from-residual-in_err-n.ensures
+    (omega (arith, c.in_ok-checked_mul.ensures, c.in_err-n.ensures, c.from.ensures)) c.from_residual-in_err-n.ensures
 
 pub loop-digit-preserved : goal.loop-digit-preserved
 loop-digit-preserved c = (

@@ -14,7 +14,7 @@ split_at-requires-2 c = after_token c.split_at.result.1.now c.run_len-2.result (
 pub returns-then-is_empty : goal.returns-then-is_empty
 returns-then-is_empty c =
     cut_none c.args.line.now c.split_at.result.1.now (cc)
-    (omega (arith, c.split_at-2.ensures.front-len, ap (run false) c.as_bytes-2.ensures.value, eqb-true _ _ (sym c.is_empty.ensures ∙ c.if-is_empty.true)))
+    (omega (arith, c.split_at-2.ensures.front_len, ap (run false) c.as_bytes-2.ensures.value, eqb-true _ _ (sym c.is_empty.ensures ∙ c.if-is_empty.true)))
 
 pub returns-else-is_empty : goal.returns-else-is_empty
 returns-else-is_empty c =
