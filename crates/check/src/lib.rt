@@ -13,14 +13,14 @@ use words::names::Addr;
 
 // Is the row sound? It needs no memory of its own, so it walks from header to header for each reference.
 pub fn is_sound<W: Words>(m: &mut Manager<W>) -> bool
-    requires fits { 64 + m.old.slots ≤ length (row m.old.words) }
-    requires short { length (row m.old.words) < 72057594037927936 }
-    requires few { touched m.old.words + length (row m.old.words) * (1 + length (row m.old.words)) ≤ 9223372036854775808 }
-    ensures value { result ≡ sound m.old.slots (row m.old.words) }
-    ensures same { row m.new.words ≡ row m.old.words }
+    requires fits { 64 + m.old.slots ≤ length (W.Words.row m.old.words) }
+    requires short { length (W.Words.row m.old.words) < 72057594037927936 }
+    requires few { W.touched m.old.words + length (W.Words.row m.old.words) * (1 + length (W.Words.row m.old.words)) ≤ 9223372036854775808 }
+    ensures value { result ≡ sound m.old.slots (W.Words.row m.old.words) }
+    ensures same { W.Words.row m.new.words ≡ W.Words.row m.old.words }
     ensures slots { m.new.slots ≡ m.old.slots }
-    ensures lender { lender m.new.words ≡ lender m.old.words }
-    ensures touches { touched m.new.words ≤ touched m.old.words + length (row m.old.words) * (1 + length (row m.old.words)) }
+    ensures lender { W.lender m.new.words ≡ W.lender m.old.words }
+    ensures touches { W.touched m.new.words ≤ W.touched m.old.words + length (W.Words.row m.old.words) * (1 + length (W.Words.row m.old.words)) }
 {
     if !has_sentinels(m) {
         return false;
@@ -40,26 +40,26 @@ pub fn is_sound<W: Words>(m: &mut Manager<W>) -> bool
 
 // Have none and the root their headers?
 fn has_sentinels<W: Words>(m: &mut Manager<W>) -> bool
-    requires fits { 64 + m.old.slots ≤ length (row m.old.words) }
-    requires few { touched m.old.words + 2 ≤ 9223372036854775808 }
-    ensures value { result ≡ (slice_index (row m.old.words) 0 == none_header) && (slice_index (row m.old.words) 62 == root_header m.old.slots) }
-    ensures same { row m.new.words ≡ row m.old.words }
+    requires fits { 64 + m.old.slots ≤ length (W.Words.row m.old.words) }
+    requires few { W.touched m.old.words + 2 ≤ 9223372036854775808 }
+    ensures value { result ≡ (slice_index (W.Words.row m.old.words) 0 == none_header) && (slice_index (W.Words.row m.old.words) 62 == root_header m.old.slots) }
+    ensures same { W.Words.row m.new.words ≡ W.Words.row m.old.words }
     ensures slots { m.new.slots ≡ m.old.slots }
-    ensures lender { lender m.new.words ≡ lender m.old.words }
-    ensures touches { touched m.new.words ≤ touched m.old.words + 2 }
+    ensures lender { W.lender m.new.words ≡ W.lender m.old.words }
+    ensures touches { W.touched m.new.words ≤ W.touched m.old.words + 2 }
 {
     m.words.get(0) == none_header().pack() && m.words.get(62) == Header::plain(m.slots, 0).pack()
 }
 
 // Do the objects, from header to header, end where the free words begin?
 fn tiles<W: Words>(m: &mut Manager<W>, free: usize) -> bool
-    requires walkable { Walkable m.old.slots (row m.old.words) free }
-    requires few { touched m.old.words + free ≤ 9223372036854775808 }
-    ensures value { result ≡ ends (layout m.old.slots (row m.old.words)) (base m.old.slots) free }
-    ensures same { row m.new.words ≡ row m.old.words }
+    requires walkable { Walkable m.old.slots (W.Words.row m.old.words) free }
+    requires few { W.touched m.old.words + free ≤ 9223372036854775808 }
+    ensures value { result ≡ ends (layout m.old.slots (W.Words.row m.old.words)) (base m.old.slots) free }
+    ensures same { W.Words.row m.new.words ≡ W.Words.row m.old.words }
     ensures slots { m.new.slots ≡ m.old.slots }
-    ensures lender { lender m.new.words ≡ lender m.old.words }
-    ensures touches { touched m.new.words ≤ touched m.old.words + free }
+    ensures lender { W.lender m.new.words ≡ W.lender m.old.words }
+    ensures touches { W.touched m.new.words ≤ W.touched m.old.words + free }
 {
     let mut at = m.base();
     while at < free {
@@ -70,13 +70,13 @@ fn tiles<W: Words>(m: &mut Manager<W>, free: usize) -> bool
 
 // Does an object begin there?
 fn begins<W: Words>(m: &mut Manager<W>, free: usize, there: Addr) -> bool
-    requires walkable { Walkable m.old.slots (row m.old.words) free }
-    requires few { touched m.old.words + free ≤ 9223372036854775808 }
-    ensures value { result ≡ nat_lt 0 (number (layout m.old.slots (row m.old.words)) there.0) }
-    ensures same { row m.new.words ≡ row m.old.words }
+    requires walkable { Walkable m.old.slots (W.Words.row m.old.words) free }
+    requires few { W.touched m.old.words + free ≤ 9223372036854775808 }
+    ensures value { result ≡ nat_lt 0 (number (layout m.old.slots (W.Words.row m.old.words)) there.0) }
+    ensures same { W.Words.row m.new.words ≡ W.Words.row m.old.words }
     ensures slots { m.new.slots ≡ m.old.slots }
-    ensures lender { lender m.new.words ≡ lender m.old.words }
-    ensures touches { touched m.new.words ≤ touched m.old.words + free }
+    ensures lender { W.lender m.new.words ≡ W.lender m.old.words }
+    ensures touches { W.touched m.new.words ≤ W.touched m.old.words + free }
 {
     let mut at = m.base();
     while at < free {
@@ -90,14 +90,14 @@ fn begins<W: Words>(m: &mut Manager<W>, free: usize, there: Addr) -> bool
 
 // Is there a reference at a word: none or where an object begins, with a low byte of 0?
 fn is_reference<W: Words>(m: &mut Manager<W>, free: usize, at: usize) -> bool
-    requires walkable { Walkable m.old.slots (row m.old.words) free }
-    requires within { at < length (row m.old.words) }
-    requires few { touched m.old.words + (1 + free) ≤ 9223372036854775808 }
-    ensures value { result ≡ reference_ok (layout m.old.slots (row m.old.words)) (slice_index (row m.old.words) at) }
-    ensures same { row m.new.words ≡ row m.old.words }
+    requires walkable { Walkable m.old.slots (W.Words.row m.old.words) free }
+    requires within { at < length (W.Words.row m.old.words) }
+    requires few { W.touched m.old.words + (1 + free) ≤ 9223372036854775808 }
+    ensures value { result ≡ reference_ok (layout m.old.slots (W.Words.row m.old.words)) (slice_index (W.Words.row m.old.words) at) }
+    ensures same { W.Words.row m.new.words ≡ W.Words.row m.old.words }
     ensures slots { m.new.slots ≡ m.old.slots }
-    ensures lender { lender m.new.words ≡ lender m.old.words }
-    ensures touches { touched m.new.words ≤ touched m.old.words + (1 + free) }
+    ensures lender { W.lender m.new.words ≡ W.lender m.old.words }
+    ensures touches { W.touched m.new.words ≤ W.touched m.old.words + (1 + free) }
 {
     let reference = m.reference(at);
     if reference.tag != 0 {
@@ -111,14 +111,14 @@ fn is_reference<W: Words>(m: &mut Manager<W>, free: usize, at: usize) -> bool
 
 // Are there references in so many words?
 fn are_references<W: Words>(m: &mut Manager<W>, free: usize, from: usize, count: usize) -> bool
-    requires walkable { Walkable m.old.slots (row m.old.words) free }
-    requires within { from + count ≤ length (row m.old.words) }
-    requires few { touched m.old.words + count * (1 + free) ≤ 9223372036854775808 }
-    ensures value { result ≡ all_of (reference_ok (layout m.old.slots (row m.old.words))) (seg (row m.old.words) from count) }
-    ensures same { row m.new.words ≡ row m.old.words }
+    requires walkable { Walkable m.old.slots (W.Words.row m.old.words) free }
+    requires within { from + count ≤ length (W.Words.row m.old.words) }
+    requires few { W.touched m.old.words + count * (1 + free) ≤ 9223372036854775808 }
+    ensures value { result ≡ all_of (reference_ok (layout m.old.slots (W.Words.row m.old.words))) (seg (W.Words.row m.old.words) from count) }
+    ensures same { W.Words.row m.new.words ≡ W.Words.row m.old.words }
     ensures slots { m.new.slots ≡ m.old.slots }
-    ensures lender { lender m.new.words ≡ lender m.old.words }
-    ensures touches { touched m.new.words ≤ touched m.old.words + count * (1 + free) }
+    ensures lender { W.lender m.new.words ≡ W.lender m.old.words }
+    ensures touches { W.touched m.new.words ≤ W.touched m.old.words + count * (1 + free) }
 {
     for i in 0..count {
         if !is_reference(m, free, from + i) {
@@ -130,14 +130,14 @@ fn are_references<W: Words>(m: &mut Manager<W>, free: usize, from: usize, count:
 
 // Has every object a plain header without a mark, and references in its places?
 fn are_objects<W: Words>(m: &mut Manager<W>, free: usize) -> bool
-    requires walkable { Walkable m.old.slots (row m.old.words) free }
-    requires tiled { ends (layout m.old.slots (row m.old.words)) (base m.old.slots) free ≡ true }
-    requires few { touched m.old.words + free * (1 + free) ≤ 9223372036854775808 + base m.old.slots * (1 + free) }
-    ensures value { result ≡ all_of (cell_ok (layout m.old.slots (row m.old.words)) (row m.old.words)) (layout m.old.slots (row m.old.words)) }
-    ensures same { row m.new.words ≡ row m.old.words }
+    requires walkable { Walkable m.old.slots (W.Words.row m.old.words) free }
+    requires tiled { ends (layout m.old.slots (W.Words.row m.old.words)) (base m.old.slots) free ≡ true }
+    requires few { W.touched m.old.words + free * (1 + free) ≤ 9223372036854775808 + base m.old.slots * (1 + free) }
+    ensures value { result ≡ all_of (cell_ok (layout m.old.slots (W.Words.row m.old.words)) (W.Words.row m.old.words)) (layout m.old.slots (W.Words.row m.old.words)) }
+    ensures same { W.Words.row m.new.words ≡ W.Words.row m.old.words }
     ensures slots { m.new.slots ≡ m.old.slots }
-    ensures lender { lender m.new.words ≡ lender m.old.words }
-    ensures touches { touched m.new.words + base m.old.slots * (1 + free) ≤ touched m.old.words + free * (1 + free) }
+    ensures lender { W.lender m.new.words ≡ W.lender m.old.words }
+    ensures touches { W.touched m.new.words + base m.old.slots * (1 + free) ≤ W.touched m.old.words + free * (1 + free) }
 {
     let mut at = m.base();
     while at < free {
