@@ -1,6 +1,6 @@
 // The calls on a small row, with what they answer and touch.
 use calls::{clear, copy, get, read, same, set, sizes, write};
-use check::is_sound;
+use soundness::is_sound;
 use std::alloc::Global;
 use std::process::Abort;
 use std::test::Fail;

@@ -1,7 +1,7 @@
 // Which rows are sound, and what start leaves of any.
 ghost use Rattle.std.specs.Prelude.{◌<◌};
 
-use check::is_sound;
+use soundness::is_sound;
 use std::alloc::Global;
 use std::process::Abort;
 use std::test::Fail;

@@ -100,7 +100,11 @@ impl Reading {
 fn input_lines(rt: &HostRuntime, lines: &mut Vec<String>) -> Result<(), Fault>
     ensures { EndsBehind (vec_len lines.new) result }
 {
-    for line in BufReader::new(rt.stdin()).lines(rt.alloc()) {
+    let input = match BufReader::new(rt.alloc(), rt.stdin()) {
+        Ok(input) => input,
+        Err(why) => return Err(Fault::Unread(lines.len() + 1, why)),
+    };
+    for line in input.lines(rt.alloc()) {
         let number = lines.len() + 1;
         let line = match line {
             Ok(line) => line,

@@ -4,7 +4,7 @@
 ghost use Rattle.std.specs.Prelude.{vec_len};
 ghost use Rattle.marking_tests.specs.Rows.{Within};
 
-use check::is_sound;
+use soundness::is_sound;
 use marking::mark;
 use std::io;
 use store::Manager;

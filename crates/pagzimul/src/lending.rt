@@ -6,7 +6,7 @@ ghost use Rattle.layout.specs.Sound.{sound};
 ghost use Rattle.store.specs.Ready.{Ready};
 ghost use Rattle.pagzimul.specs.Lent.{startable, Usable};
 
-use check::is_sound;
+use soundness::is_sound;
 use std::mem;
 use store::{Manager, start};
 use words::lent::Lent;

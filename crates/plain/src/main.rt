@@ -4,10 +4,11 @@
 ghost use Rattle.std.specs.Prelude.{IfOk};
 ghost use Rattle.world.specs.View.{Kept};
 
-use driver::{Fault, Machine, play_line};
+use driver::{Fault, Machine, play_line, report};
 use script::{HeapSize, is_passed_over, read_heap_size};
 use std::alloc::{AllocError, Global};
 use std::io::{BufRead, BufReader, BufWriter, Stdout, Write};
+use std::process::ExitCode;
 use world::{Ask, PlainWorld, Told};
 
 #[derive(Drop)]
@@ -40,7 +41,11 @@ fn begin(heap: Global, number: usize, line: &str) -> Result<Plain, Fault>
 fn answer_all(rt: &HostRuntime, out: &mut BufWriter<Stdout>) -> Result<(), Fault> {
     let heap = rt.alloc();
     let mut machine: Option<Plain> = None;
-    for (before, line) in BufReader::new(rt.stdin()).lines(heap).enumerate() {
+    let input = match BufReader::new(heap, rt.stdin()) {
+        Ok(input) => input,
+        Err(why) => return Err(Fault::Unread(1, why)),
+    };
+    for (before, line) in input.lines(heap).enumerate() {
         let number = before.saturating_add(1);
         let line = match line {
             Ok(line) => line,
@@ -61,18 +66,26 @@ fn answer_all(rt: &HostRuntime, out: &mut BufWriter<Stdout>) -> Result<(), Fault
     }
 }
 
-fn main(rt: HostRuntime) -> Result<(), Fault> {
-    let mut out = BufWriter::new(rt.stdout());
-    let played = answer_all(&rt, &mut out);
+// The answers so far are written before a fault is said.
+fn play_input(rt: &HostRuntime) -> Result<(), Fault> {
+    let mut out = match BufWriter::new(rt.alloc(), rt.stdout()) {
+        Ok(out) => out,
+        Err(why) => return Err(Fault::Unwritten(why)),
+    };
+    let played = answer_all(rt, &mut out);
     let flushed = out.flush();
     match played {
         Ok(()) => match flushed {
             Ok(()) => Ok(()),
             Err(why) => Err(Fault::Unwritten(why)),
         },
-        Err(fault) => {
-            let _ = eprintln!(rt; "{fault}");
-            Err(fault)
-        }
+        Err(fault) => Err(fault),
+    }
+}
+
+fn main(rt: HostRuntime) -> ExitCode {
+    match report(&rt, play_input(&rt)) {
+        Ok(()) => ExitCode::SUCCESS,
+        Err(_) => ExitCode::FAILURE,
     }
 }

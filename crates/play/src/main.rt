@@ -6,6 +6,7 @@ ghost use Rattle.driver.specs.Playing.{Answered};
 use bench::answer_script;
 use driver::{Fault, Script, print_answers, read_script, report};
 use std::alloc::{AllocError, Global};
+use std::process::ExitCode;
 use world::Told;
 
 fn answer(heap: Global, script: &Script) -> Result<Vec<Told>, AllocError>
@@ -25,7 +26,9 @@ fn play_script(rt: &HostRuntime) -> Result<(), Fault> {
     print_answers(rt, script, told)
 }
 
-fn main(rt: HostRuntime) -> Result<(), Fault> {
-    let played = play_script(&rt);
-    report(&rt, played)
+fn main(rt: HostRuntime) -> ExitCode {
+    match report(&rt, play_script(&rt)) {
+        Ok(()) => ExitCode::SUCCESS,
+        Err(_) => ExitCode::FAILURE,
+    }
 }

@@ -4,6 +4,7 @@
 use bench::{Kind, Tally, touch_script};
 use driver::{Fault, Script, read_script, report};
 use std::io::{BufWriter, Stdout, Write};
+use std::process::ExitCode;
 use std::{env, fmt, io};
 use world::Ask;
 
@@ -105,7 +106,9 @@ fn run(rt: &HostRuntime) -> Result<(), Failure> {
     }
 }
 
-fn main(rt: HostRuntime) -> Result<(), Failure> {
-    let done = run(&rt);
-    report(&rt, done)
+fn main(rt: HostRuntime) -> ExitCode {
+    match report(&rt, run(&rt)) {
+        Ok(()) => ExitCode::SUCCESS,
+        Err(_) => ExitCode::FAILURE,
+    }
 }

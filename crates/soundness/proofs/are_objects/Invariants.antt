@@ -3,7 +3,7 @@ use Rattle.std.proofs.Common.{◌≡◌, ◌+◌, ◌-◌, ◌*◌, ◌≤◌, t
 use Rattle.layout.specs.Cells.{base, layout}
 use Rattle.layout.specs.Sound.{all_of, cell_ok, ends}
 use Rattle.layout.proofs.Rests.{rest}
-use Rattle.check.proofs.are_objects.Given as goal
+use Rattle.soundness.proofs.are_objects.Given as goal
 
 abbrev pub invariant-loop-at : goal.invariant-loop-at
 invariant-loop-at g l =

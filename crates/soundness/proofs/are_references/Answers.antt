@@ -1,8 +1,8 @@
 -- One word more is a reference, or one is none.
 use Rattle.std.proofs.Common.{◌≡◌, ◌+◌, length, sym, refl, ap, ◌∙◌, arith}
-use Rattle.check.proofs.Sums.{step_up, step_within}
-use Rattle.check.proofs.Judging.{walkable_still, word_false, word_true}
-use Rattle.check.proofs.are_references.Goals as goal
+use Rattle.soundness.proofs.Sums.{step_up, step_within}
+use Rattle.soundness.proofs.Judging.{walkable_still, word_false, word_true}
+use Rattle.soundness.proofs.are_references.Goals as goal
 
 pub is_reference-requires : goal.is_reference-requires
 is_reference-requires g c =

@@ -3,8 +3,8 @@ use Rattle.std.proofs.Common.{◌≡◌, List, sym, refl, ap, ◌∙◌, arith}
 use Rattle.layout.specs.Cells.{Cell}
 use Rattle.layout.specs.Sound.{ends}
 use Rattle.layout.proofs.Rests.{ends_step, ends_end}
-use Rattle.check.proofs.Going.{going_none, going_more, header_span, rest_first}
-use Rattle.check.proofs.tiles.Goals as goal
+use Rattle.soundness.proofs.Going.{going_none, going_more, header_span, rest_first}
+use Rattle.soundness.proofs.tiles.Goals as goal
 
 pub loop-at-init : goal.loop-at-init
 loop-at-init g c =
@@ -15,7 +15,7 @@ loop-at-init g c =
 pub loop-at-preserved : goal.loop-at-preserved
 loop-at-preserved g c =
     let i = c.loop-at.invariant in
-    let s = header_span _ _ _ _ _ i.0.same c.header.ensures.value c.weight_at.ensures in (
+    let s = header_span _ _ _ _ _ i.0.same c.header.ensures.value c.weight-at.ensures in (
       going_more _ _ _ _ _ _ _ _ _ _ _ _ i.0 c.loop-at-test.true c.header.ensures.same c.header.ensures.slots c.header.ensures.one (omega arith),
       sym (ends_step _ _ _ _ c.loop-at-test.true s) ∙ i.1,
       c.header.ensures.lender ∙ i.2,

@@ -5,10 +5,10 @@ use Rattle.std.proofs.lemmas.Bool.{eqb-true}
 use Rattle.layout.specs.Cells.{Cell, layout, base}
 use Rattle.layout.specs.Sound.{all_of, cell_ok, ends}
 use Rattle.layout.proofs.Rests.{ends_end, all_end}
-use Rattle.check.proofs.Going.{rest_first}
-use Rattle.check.proofs.Sums.{step_within, object_within}
-use Rattle.check.proofs.Judging.{walkable_still, header_false, places_false, object_true, object_ends, ends_still}
-use Rattle.check.proofs.are_objects.Goals as goal
+use Rattle.soundness.proofs.Going.{rest_first}
+use Rattle.soundness.proofs.Sums.{step_within, object_within}
+use Rattle.soundness.proofs.Judging.{walkable_still, header_false, places_false, object_true, object_ends, ends_still}
+use Rattle.soundness.proofs.are_objects.Goals as goal
 
 pub loop-at-init : goal.loop-at-init
 loop-at-init g c =
@@ -80,8 +80,8 @@ loop-at-preserved g c =
     let h = c.header-header.result in
     let o = object_ends _ _ _ _ h c.loop-at-test.true i.3 i.0 k.value in
     let s = object_within c.loop-at.at h.places h.words c.args.free (1 + c.args.free) (omega arith) o in
-    let w = c.weight_at.ensures in
-    let p : (c.loop-at.at + c.weight_at.result) * (1 + c.args.free) ≡ (c.loop-at.at + (2 + (h.places + h.words))) * (1 + c.args.free) = ap (λ (x : ℕ). (c.loop-at.at + x) * (1 + c.args.free)) w in (
+    let w = c.weight-at.ensures in
+    let p : (c.loop-at.at + c.weight-at.result) * (1 + c.args.free) ≡ (c.loop-at.at + (2 + (h.places + h.words))) * (1 + c.args.free) = ap (λ (x : ℕ). (c.loop-at.at + x) * (1 + c.args.free)) w in (
       r.same ∙ k.same ∙ i.0,
       r.slots ∙ k.slots ∙ i.1,
       omega arith,

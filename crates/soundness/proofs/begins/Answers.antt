@@ -2,8 +2,8 @@
 use Rattle.std.proofs.Common.{◌≡◌, ltb, List, sym, refl, ap, ◌∙◌, arith}
 use Rattle.layout.specs.Cells.{Cell, number}
 use Rattle.layout.proofs.Rests.{number_step, number_hit, number_end}
-use Rattle.check.proofs.Going.{going_none, going_more, header_span, rest_first}
-use Rattle.check.proofs.begins.Goals as goal
+use Rattle.soundness.proofs.Going.{going_none, going_more, header_span, rest_first}
+use Rattle.soundness.proofs.begins.Goals as goal
 
 pub loop-at-init : goal.loop-at-init
 loop-at-init g c =
@@ -18,7 +18,7 @@ returns-then-at-there g c =
 pub loop-at-preserved : goal.loop-at-preserved
 loop-at-preserved g c =
     let i = c.loop-at.invariant in
-    let s = header_span _ _ _ _ _ i.0.same c.header.ensures.value c.weight_at.ensures in (
+    let s = header_span _ _ _ _ _ i.0.same c.header.ensures.value c.weight-at.ensures in (
       going_more _ _ _ _ _ _ _ _ _ _ _ _ i.0 c.loop-at-test.true c.header.ensures.same c.header.ensures.slots c.header.ensures.one (omega arith),
       sym (number_step _ _ _ _ _ c.loop-at-test.true s c.if-at-there.false) ∙ i.1,
       c.header.ensures.lender ∙ i.2,

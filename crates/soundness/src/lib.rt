@@ -4,7 +4,7 @@
 ghost use Rattle.std.specs.Prelude.{◌≡◌, ℕ, ◌+◌, ◌*◌, ◌<◌, ◌≤◌, true, ◌&&◌, length, ◌==◌, nat_lt, slice_index};
 ghost use Rattle.layout.specs.Cells.{base, free_of, layout, number, seg};
 ghost use Rattle.layout.specs.Sound.{all_of, cell_ok, ends, none_header, reference_ok, root_header, sound};
-ghost use Rattle.check.specs.Walkable.{Walkable};
+ghost use Rattle.soundness.specs.Walkable.{Walkable};
 
 use store::{Manager, none_header};
 use words::Words;

@@ -5,7 +5,7 @@ use Rattle.words.specs.Header.{places_of, words_of, unpacked}
 use Rattle.layout.specs.Cells.{cell, span, base, free_of, layout, number}
 use Rattle.layout.specs.Sound.{ends}
 use Rattle.layout.proofs.Rests.{rest, rest_layout, ends_step, ends_end, number_step, number_hit, number_end}
-use Rattle.check.specs.Walkable.{Walkable}
+use Rattle.soundness.specs.Walkable.{Walkable}
 
 -- nothing is changed, and each step over two words or more touched one
 pub record Going (row row' : List ℕ) (slots slots' touched touched' at free : ℕ) : Type 0 where

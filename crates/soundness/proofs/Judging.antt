@@ -6,7 +6,7 @@ use Rattle.words.specs.Header.{places_of, words_of, mark_of, kind_of, unpacked}
 use Rattle.layout.specs.Cells.{Cell, cell, span, base, layout, seg}
 use Rattle.layout.specs.Sound.{all_of, reference_ok, cell_ok, ends}
 use Rattle.layout.proofs.Rests.{rest, rest_within, ends_step, part_step, all_step, plain_below}
-use Rattle.check.specs.Walkable.{Walkable}
+use Rattle.soundness.specs.Walkable.{Walkable}
 
 -- a row that is as it was can still be looked through
 pub walkable_still : (slots slots1 : ℕ) (row row1 : List ℕ) (free : ℕ) → Walkable slots row free → row1 ≡ row → slots1 ≡ slots → Walkable slots1 row1 free

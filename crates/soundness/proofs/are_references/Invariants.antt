@@ -2,7 +2,7 @@
 use Rattle.std.proofs.Common.{◌≡◌, ◌+◌, ◌-◌, ◌*◌, ◌≤◌}
 use Rattle.layout.specs.Cells.{layout, seg}
 use Rattle.layout.specs.Sound.{all_of, reference_ok}
-use Rattle.check.proofs.are_references.Given as goal
+use Rattle.soundness.proofs.are_references.Given as goal
 
 abbrev pub invariant-loop-i : goal.invariant-loop-i
 invariant-loop-i g l =
