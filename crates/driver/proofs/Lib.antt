@@ -1,2 +1,2 @@
 -- Proofs on the lines of a script.
-mod Lines
+mod Taken

@@ -3,7 +3,7 @@ use Rattle.std.proofs.Common.{◌<◌, ◌≤◌, map, length, string_bytes, sym
 use Rattle.std.proofs.lemmas.List.{length-map}
 use Rattle.std.proofs.lemmas.Result.{err_from_is_err_and}
 use Rattle.driver.specs.Reading.{so_far, after_all}
-use Rattle.driver.proofs.Lines.{line_at, after_more, stops_here}
+use Rattle.driver.proofs.Taken.{line_at, after_more, stops_here}
 use Rattle.driver.proofs.reading.Reading.take_lines.Goals as goal
 
 pub loop-before-preserved : goal.loop-before-preserved
