@@ -9,7 +9,7 @@ use Rattle.bench.proofs.touching.touch_script.Goals as goal
 pub touch_from_start-requires : goal.touch_from_start-requires
 touch_from_start-requires c =
     let made = c.in_ok-touches.ensures in
-    let none : c.as_mut_slice-2.result.now ≡ replicate (length c.args.calls.now) 0 = c.as_mut_slice-2.ensures.value ∙ made.items-if-clones-equal (λ y e. e) in
+    let none : c.as_mut_slice-2.result.now ≡ replicate (length c.args.calls.now) 0 = c.as_mut_slice-2.ensures.value ∙ made.items_if_clones_equal (λ y e. e) in
     let long = c.as_mut_slice-2.ensures.len ∙ made.len in
     let lent = c.as_mut_slice.ensures.len ∙ c.in_ok-words.ensures.len in
     let room : length c.args.calls.now ≤ length c.as_mut_slice-2.result.now = omega (arith, long) in
