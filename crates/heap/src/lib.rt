@@ -1,7 +1,6 @@
 // The memory manager: one call, and a whole script, on lent words.
 #![tactic(auto)]
 
-
 mod calling;
 mod playing;
 

@@ -1,5 +1,5 @@
 -- Lists by index: past the end, under `map`, and tests over all elements.
-use Rattle.std.proofs.Common.{◌≡◌, ℕ, zero, suc, ◌≤◌, Bool, true, ◌&&◌, List, [], ◌∷◌, map, length, replicate, refl, arith}
+use Rattle.std.proofs.Common.{◌≡◌, ℕ, zero, suc, ◌≤◌, Bool, true, List, [], ◌∷◌, map, length, replicate, refl, arith}
 use mathlib.Core.Option.{some, none, none-ne-some}
 use Rattle.std.proofs.lemmas.Bool.{and_parts, and_from}
 use Rattle.world.specs.Base.{nth, put}

@@ -1,10 +1,9 @@
 -- The cells from an address on, for loops that go from header to header: one step, the end, and what is asked of all cells.
-use Rattle.std.proofs.Common.{◌≡◌, ℕ, zero, suc, ◌+◌, ◌-◌, ◌<◌, ◌≤◌, Bool, true, false, ◌&&◌, ◌||◌, eqb, ltb, ◌⊎◌, List, [], ◌∷◌, length, get_or, sym, refl, ap, ◌∙◌, subst, inl, inr, arith}
-use Rattle.std.proofs.lemmas.Bool.{and_parts, and_from, lt-ltb, le-ltb, eq-eqb, ne_eqb, cases_lt, cases_eq}
-use Rattle.words.specs.Header.{places_of, words_of, mark_of, kind_of}
-use Rattle.world.specs.Base.{pick}
+use Rattle.std.proofs.Common.{◌≡◌, ℕ, zero, suc, ◌+◌, ◌-◌, ◌<◌, ◌≤◌, Bool, true, false, ◌&&◌, eqb, ltb, List, [], ◌∷◌, length, get_or, sym, refl, ap, ◌∙◌, inl, inr, arith}
+use Rattle.std.proofs.lemmas.Bool.{lt-ltb, le-ltb, eq-eqb, ne_eqb, cases_lt, cases_eq}
+use Rattle.words.specs.Header.{mark_of, kind_of}
 use Rattle.layout.specs.Cells.{Cell, cell, span, cells, base, free_of, layout, seg, number, next}
-use Rattle.layout.specs.Sound.{all_of, ends, reference_ok, cell_ok, Tiled}
+use Rattle.layout.specs.Sound.{all_of, ends, Tiled}
 use Rattle.layout.proofs.Tiles.{tiled_le, cells_tiled}
 
 unfoldable pub rest : List ℕ → ℕ → ℕ → List Cell

@@ -1,5 +1,5 @@
 -- A line without the carriage return that may end it, and whether it is passed over.
-use Rattle.std.proofs.Common.{◌≡◌, ℕ, Bool, true, false, cond, not, eqb, List, [], ◌∷◌, ◌++◌, is_some, Some, None, Option, sym, refl, ap, ◌∙◌, Bor, MatchOption}
+use Rattle.std.proofs.Common.{◌≡◌, ℕ, Bool, true, false, not, eqb, List, [], ◌∷◌, ◌++◌, is_some, Some, None, Option, refl, ap, Bor, MatchOption}
 use Rattle.std.proofs.lemmas.Bool.{eqb-true}
 use Rattle.script.specs.Tokens.{tokens}
 use Rattle.script.specs.Reading.{body, none_of}

@@ -1,9 +1,7 @@
 -- The names of the calls are told apart.
-use Rattle.std.proofs.Common.{◌≡◌, ℕ, Bool, true, false, List, [], ◌∷◌, Ok, Err, codes, sym, refl}
+use Rattle.std.proofs.Common.{◌≡◌, ℕ, Bool, true, false, List, refl}
 use Rattle.std.specs.Str.{bytes_eq}
 use Rattle.std.proofs.lemmas.Slice.Eq.{bytes_eq-Decides}
-use Rattle.script.specs.declared.error.LineError.TheVariants.{UnknownCall}
-use Rattle.script.specs.Reading.{called}
 
 differs_at : (xs ys : List ℕ) (t : Bool) → bytes_eq xs ys ≡ t → (xs ≡ ys → ⊥) → t ≡ false
 differs_at xs ys true e h = absurd (h ((bytes_eq-Decides xs ys).0 e))

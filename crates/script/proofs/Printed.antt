@@ -1,5 +1,5 @@
 -- What is printed of a call is read as that call.
-use Rattle.std.proofs.Common.{◌≡◌, ℕ, ◌-◌, ◌^◌, ◌<◌, ◌≤◌, Bool, true, false, cond, not, ◌&&◌, eqb, ltb, leb, List, [], ◌∷◌, ◌++◌, map, length, Ok, decimal, sym, refl, ap, ◌∙◌, subst, ⊎_elim, arith, rules}
+use Rattle.std.proofs.Common.{◌≡◌, ℕ, ◌^◌, ◌<◌, Bool, true, false, not, ◌&&◌, eqb, ltb, leb, List, [], ◌∷◌, ◌++◌, map, length, decimal, refl, ap, ◌∙◌, arith, rules}
 use Rattle.std.specs.Char.{is_ascii_digit}
 use Rattle.std.specs.Str.{all_ascii_digits}
 use Rattle.std.proofs.lemmas.Fmt.{digits_decimal, digits_value-decimal, decimal_nonempty}
@@ -9,9 +9,9 @@ use Rattle.world.specs.declared.Ask.{Ask}
 use Rattle.world.specs.declared.Ask.TheVariants.{New, Get, Set, Read, Write, Copy, Clear, Same, Sizes, Collect}
 use Rattle.script.specs.Text.{name, numbers, spaced, call_text}
 use Rattle.script.specs.Tokens.{blank, pieces, filled, tokens}
-use Rattle.script.specs.Numbers.{value, value_after}
-use Rattle.script.specs.Reading.{Limit, body, last_return, call_of}
-use Rattle.script.specs.Spelling.{WriteAll, Within, limits, Fits, Spells, ReadsBack}
+use Rattle.script.specs.Numbers.{value_after}
+use Rattle.script.specs.Reading.{body}
+use Rattle.script.specs.Spelling.{WriteAll, Fits, ReadsBack}
 use Rattle.script.proofs.Runs.{filled_some}
 use Rattle.script.proofs.Spelt.{reads_what_is_spelt}
 

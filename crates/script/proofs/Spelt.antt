@@ -11,7 +11,7 @@ use Rattle.script.specs.declared.read.HeapSize.{HeapSize}
 use Rattle.script.specs.Text.{name, numbers}
 use Rattle.script.specs.Tokens.{tokens}
 use Rattle.script.specs.Numbers.{value, number}
-use Rattle.script.specs.Reading.{Limit, Takes, index, word, words, bind, next, reads, called, reading, body, call_of, heap_size, heap_size_of}
+use Rattle.script.specs.Reading.{Limit, Takes, index, word, words, reads, called, reading, body, heap_size, heap_size_of}
 use Rattle.script.specs.Spelling.{WriteAll, Within, limits, Fits, Spells, SpellsSize, ReadsWhatIsSpelt, ReadsSizeThatIsSpelt}
 
 -- one number

@@ -1,10 +1,9 @@
 -- A loop from header to header: what it has touched, and what it still has to find out.
-use Rattle.std.proofs.Common.{◌≡◌, ℕ, ◌+◌, ◌<◌, ◌≤◌, Bool, true, false, eqb, ltb, List, length, get_or, sym, refl, ap, ◌∙◌, subst, arith}
+use Rattle.std.proofs.Common.{◌≡◌, ℕ, ◌+◌, ◌<◌, ◌≤◌, List, get_or, refl, ap, ◌∙◌, arith}
 use Rattle.words.specs.declared.header.Header.{Header}
 use Rattle.words.specs.Header.{places_of, words_of, unpacked}
-use Rattle.layout.specs.Cells.{cell, span, base, free_of, layout, number}
-use Rattle.layout.specs.Sound.{ends}
-use Rattle.layout.proofs.Rests.{rest, rest_layout, ends_step, ends_end, number_step, number_hit, number_end}
+use Rattle.layout.specs.Cells.{cell, span, base, layout}
+use Rattle.layout.proofs.Rests.{rest, rest_layout}
 use Rattle.soundness.specs.Walkable.{Walkable}
 
 -- nothing is changed, and each step over two words or more touched one

@@ -1,9 +1,9 @@
 -- One word or one object more is judged, and what is then left to judge.
-use Rattle.std.proofs.Common.{◌≡◌, ℕ, ◌+◌, ◌-◌, ◌<◌, ◌≤◌, Bool, true, false, ◌&&◌, eqb, ltb, ◌⊎◌, List, length, get_or, sym, refl, ap, ◌∙◌, subst, inl, inr, arith}
+use Rattle.std.proofs.Common.{◌≡◌, ℕ, ◌+◌, ◌-◌, ◌<◌, ◌≤◌, Bool, true, false, ◌&&◌, eqb, ltb, ◌⊎◌, List, get_or, sym, refl, ap, ◌∙◌, inl, inr, arith}
 use Rattle.std.proofs.lemmas.Bool.{eq-eqb, ne_eqb}
 use Rattle.words.specs.declared.header.Header.{Header}
 use Rattle.words.specs.Header.{places_of, words_of, mark_of, kind_of, unpacked}
-use Rattle.layout.specs.Cells.{Cell, cell, span, base, layout, seg}
+use Rattle.layout.specs.Cells.{cell, layout, seg}
 use Rattle.layout.specs.Sound.{all_of, reference_ok, cell_ok, ends}
 use Rattle.layout.proofs.Rests.{rest, rest_within, ends_step, part_step, all_step, plain_below}
 use Rattle.soundness.specs.Walkable.{Walkable}

@@ -1,7 +1,6 @@
 // The manager over a row of words, and how it reads and writes headers, references and words.
 #![tactic(auto)]
 
-
 mod access;
 mod empty;
 mod manager;

@@ -1,5 +1,5 @@
 -- One object more is sound, or one is not.
-use Rattle.std.proofs.Common.{◌≡◌, ℕ, ◌+◌, ◌*◌, ◌≤◌, List, length, get_or, sym, refl, ap, ◌∙◌, arith}
+use Rattle.std.proofs.Common.{◌≡◌, ℕ, ◌+◌, ◌*◌, List, length, get_or, sym, refl, ap, ◌∙◌, arith}
 use Rattle.words.specs.Header.{unpacked}
 use Rattle.std.proofs.lemmas.Bool.{eqb-true}
 use Rattle.layout.specs.Cells.{Cell, layout, base}

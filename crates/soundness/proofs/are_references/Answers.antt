@@ -1,5 +1,5 @@
 -- One word more is a reference, or one is none.
-use Rattle.std.proofs.Common.{◌≡◌, ◌+◌, length, sym, refl, ap, ◌∙◌, arith}
+use Rattle.std.proofs.Common.{◌+◌, length, ap, ◌∙◌, arith}
 use Rattle.soundness.proofs.Sums.{step_up, step_within}
 use Rattle.soundness.proofs.Judging.{walkable_still, word_false, word_true}
 use Rattle.soundness.proofs.are_references.Goals as goal

@@ -1,5 +1,5 @@
 -- From header to header, up to the one that is looked for.
-use Rattle.std.proofs.Common.{◌≡◌, ltb, List, sym, refl, ap, ◌∙◌, arith}
+use Rattle.std.proofs.Common.{ltb, List, sym, refl, ap, ◌∙◌, arith}
 use Rattle.layout.specs.Cells.{Cell, number}
 use Rattle.layout.proofs.Rests.{number_step, number_hit, number_end}
 use Rattle.soundness.proofs.Going.{going_none, going_more, header_span, rest_first}

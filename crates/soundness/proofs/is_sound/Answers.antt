@@ -1,7 +1,6 @@
 -- The tests in their order, each with what was touched so far.
-use Rattle.std.proofs.Common.{◌≡◌, ℕ, ◌+◌, ◌*◌, ◌≤◌, List, length, get_or, sym, refl, ap, ◌∙◌, arith}
+use Rattle.std.proofs.Common.{◌≡◌, ℕ, ◌+◌, ◌*◌, length, ap, ◌∙◌, arith}
 use Rattle.layout.specs.Cells.{free_of}
-use Rattle.soundness.specs.Walkable.{Walkable}
 use Rattle.soundness.proofs.Judging.{walkable_still}
 use Rattle.soundness.proofs.Verdicts.{unsound_0, unsound_2, unsound_3, unsound_4, ends_is, objects_are, references_are, sound_by_slots, ends_after, covers}
 use Rattle.soundness.proofs.is_sound.Goals as goal

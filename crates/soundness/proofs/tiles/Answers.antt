@@ -1,7 +1,5 @@
 -- From header to header, up to the free words.
-use Rattle.std.proofs.Common.{◌≡◌, List, sym, refl, ap, ◌∙◌, arith}
-use Rattle.layout.specs.Cells.{Cell}
-use Rattle.layout.specs.Sound.{ends}
+use Rattle.std.proofs.Common.{sym, refl, ◌∙◌, arith}
 use Rattle.layout.proofs.Rests.{ends_step, ends_end}
 use Rattle.soundness.proofs.Going.{going_none, going_more, header_span, rest_first}
 use Rattle.soundness.proofs.tiles.Goals as goal

@@ -1,5 +1,5 @@
 -- In the blank world a slot that is there is empty.
-use Rattle.std.proofs.Common.{refl, arith}
+use Rattle.std.proofs.Common.{refl}
 use Rattle.heap.proofs.Scripts.{empty_there, empty_none}
 use Rattle.heap.proofs.playing.empty.Goals as goal
 

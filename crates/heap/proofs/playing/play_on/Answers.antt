@@ -1,9 +1,6 @@
 -- Each turn answers one call more, in a world alike to the one that was to come.
-use Rattle.std.proofs.Common.{◌≡◌, ℕ, ◌<◌, true, List, length, sym, refl, ap, ◌∙◌, subst, ap₂, arith}
-use Rattle.world.specs.Says.{room}
-use Rattle.layout.specs.Cells.{world_of}
+use Rattle.std.proofs.Common.{ℕ, ◌<◌, length, refl, ap, ◌∙◌, arith}
 use Rattle.layout.specs.Sound.{sound}
-use Rattle.heap.specs.Says.{Does}
 use Rattle.heap.proofs.Scripts.{telling_more, telling_last, does_at}
 use Rattle.heap.proofs.playing.play_on.Goals as goal
 

@@ -1,5 +1,5 @@
 -- Each turn answers one call more, and the blank world stays.
-use Rattle.std.proofs.Common.{◌≡◌, ◌<◌, length, refl, ◌∙◌, arith}
+use Rattle.std.proofs.Common.{◌<◌, length, refl, ◌∙◌, arith}
 use Rattle.world.specs.World.{blank}
 use Rattle.heap.proofs.Scripts.{telling_more, telling_last, blank_does}
 use Rattle.heap.proofs.playing.play_without_words.Goals as goal

@@ -1,9 +1,9 @@
 -- No comment, so it is passed over just if it has no token.
-use Rattle.std.proofs.Common.{◌≡◌, Bool, true, false, not, ◌||◌, eqb, get_or, sym, ap, ◌∙◌, arith}
+use Rattle.std.proofs.Common.{◌≡◌, Bool, true, false, not, eqb, get_or, sym, ap, ◌∙◌, arith}
 use Rattle.std.proofs.lemmas.Str.Pattern.{starts_char}
 use Rattle.std.proofs.lemmas.Bool.{ne_eqb, both_ways}
 use Rattle.script.specs.Tokens.{tokens}
-use Rattle.script.specs.Reading.{none_of, body}
+use Rattle.script.specs.Reading.{none_of}
 use Rattle.script.proofs.Bodies.{none_from_split}
 use Rattle.script.proofs.read.is_passed_over.Goals as goal
 

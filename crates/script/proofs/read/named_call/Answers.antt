@@ -1,5 +1,5 @@
 -- A name that is none of the ten.
-use Rattle.std.proofs.Common.{codes, sym}
+use Rattle.std.proofs.Common.{codes}
 use Rattle.script.proofs.Names.{differs}
 use Rattle.script.proofs.read.named_call.Goals as goal
 

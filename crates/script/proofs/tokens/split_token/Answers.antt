@@ -1,5 +1,5 @@
 -- The line is cut before and after its first token.
-use Rattle.std.proofs.Common.{true, false, IsUtf8, sym, ap, ◌∙◌, subst, arith}
+use Rattle.std.proofs.Common.{false, IsUtf8, sym, ap, ◌∙◌, subst, arith}
 use Rattle.std.proofs.lemmas.Bool.{eqb-true, eqb-false}
 use Rattle.script.specs.Tokens.{run}
 use Rattle.script.proofs.Runs.{after_blanks, after_token, cut_some, cut_none}
