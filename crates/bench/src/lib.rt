@@ -1,7 +1,6 @@
 // What the programs that measure and compare share: scripts on the manager, the words touched in each call, tallies of them, and numbers at random.
 #![tactic(auto)]
 
-
 mod kind;
 mod playing;
 mod random;

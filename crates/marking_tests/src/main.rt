@@ -4,8 +4,8 @@
 ghost use Rattle.std.specs.Prelude.{vec_len};
 ghost use Rattle.marking_tests.specs.Rows.{Within};
 
-use soundness::is_sound;
 use marking::mark;
+use soundness::is_sound;
 use std::io;
 use store::Manager;
 use words::Words;

@@ -1,7 +1,6 @@
 // The manager for C and whatever links C: an exported function for each call, on lent words and plain numbers.
 #![tactic(auto)]
 
-
 mod arms;
 mod calling;
 mod lending;
