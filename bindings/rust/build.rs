@@ -17,7 +17,7 @@ fn main() {
     println!("cargo:rerun-if-changed={}", archive.display());
     if !archive.is_file() {
         eprintln!(
-            "{} is missing: run `rt staticlib pagzimul` in the project, or set {LIB_DIR} to where {ARCHIVE} lies",
+            "{} is missing: run `scripts/build pagzimul` in the project, or set {LIB_DIR} to where {ARCHIVE} lies",
             archive.display()
         );
         process::exit(1);

@@ -7,4 +7,4 @@ use Rattle.sliding_tests.proofs.tests.large_object_overlaps.Goals as goal
 
 pub slid-requires : goal.slid-requires
 unfolding layout sound
-slid-requires c = record { «open» = record { fits = omega arith; short = omega arith; few = omega arith }; marked = decided 2 _ refl refl }
+slid-requires g c = record { «open» = record { fits = omega arith; short = omega arith; few = omega arith }; marked = decided 2 _ refl refl }
