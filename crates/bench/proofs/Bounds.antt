@@ -1,5 +1,5 @@
 -- Rows of touches, each within its bound.
-use Rattle.std.proofs.Common.{◌≡◌, ℕ, zero, suc, ◌+◌, ◌*◌, ◌≤◌, List, [], ◌∷◌, get_or, set, replicate, sym, refl, ap, subst, arith}
+use Rattle.std.proofs.Common.{ℕ, zero, suc, ◌+◌, ◌*◌, ◌≤◌, List, [], ◌∷◌, get_or, set, replicate, arith}
 use Rattle.bench.specs.Touches.{Bounded}
 
 -- one more is written

@@ -3,11 +3,11 @@ use Rattle.std.proofs.Common.{◌≡◌, ℕ, ◌+◌, ◌*◌, ◌≤◌, Bool,
 use Rattle.std.proofs.lemmas.Nat.{mul-le}
 use Rattle.std.proofs.lemmas.Bool.{lt-ltb, true≢false}
 use Rattle.world.specs.declared.Ask.{Ask}
-use Rattle.world.specs.World.{World, Alike}
+use Rattle.world.specs.World.{Alike}
 use Rattle.world.specs.Script.{Answer, Outcome, answer}
 use Rattle.world.specs.Says.{room}
 use Rattle.layout.specs.Cells.{world_of}
-use Rattle.heap.specs.Says.{Does, Calls}
+use Rattle.heap.specs.Says.{Calls}
 use Rattle.pagzimul.specs.Lent.{Usable}
 use Rattle.pagzimul.proofs.Wide.{Narrow, narrow_of}
 

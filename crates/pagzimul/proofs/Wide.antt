@@ -1,9 +1,8 @@
 -- In the world of a row a number that is too large is answered as the last of 16 bits: neither is a slot, a place or a word.
-use Rattle.std.proofs.Common.{◌≡◌, ℕ, zero, suc, ◌+◌, ◌*◌, ◌<◌, ◌≤◌, min, true, eqb, ◌⊎◌, List, map, length, get_or, sym, refl, ap, ◌∙◌, subst, inl, inr, arith}
+use Rattle.std.proofs.Common.{◌≡◌, ℕ, zero, suc, ◌+◌, ◌*◌, ◌<◌, ◌≤◌, min, true, eqb, List, length, sym, refl, ap, ◌∙◌, subst, inl, inr, arith}
 use mathlib.Core.Option.{Option, some, none}
 use lib.ListN.{length-map}
 use Rattle.std.proofs.lemmas.Bool.{cases_lt}
-use Rattle.world.specs.declared.Ask.{Ask}
 use Rattle.world.specs.declared.Ask.TheVariants.{New, Get, Set, Read, Write, Copy, Clear, Same, Sizes}
 use Rattle.world.specs.Base.{nth, opt, bit}
 use Rattle.world.specs.World.{Obj, World, obj_at, with_slot, with_obj, with_place, with_word}

@@ -1,5 +1,5 @@
 -- Lent words and plain numbers: which can be a heap, when calls may be made, and what a new object is told.
-use Rattle.std.specs.Prelude.{◌≡◌, ℕ, ◌+◌, ◌<◌, Bool, false, ◌&&◌, ltb, List, length, nat_le, nat_lt}
+use Rattle.std.specs.Prelude.{◌≡◌, ℕ, ◌+◌, ◌<◌, Bool, false, ◌&&◌, ltb, List, nat_le, nat_lt}
 use Rattle.world.specs.declared.Ask.TheVariants.{New}
 use Rattle.world.specs.Base.{pick}
 use Rattle.world.specs.Script.{Answer, told}

@@ -1,7 +1,6 @@
 -- The answers are those of the whole script, and there is one for each call.
-use Rattle.std.proofs.Common.{◌≡◌, ℕ, ◌≤◌, List, ◌++◌, map, length, take, drop, sym, ap, ◌∙◌, arith}
+use Rattle.std.proofs.Common.{◌≡◌, ℕ, ◌≤◌, map, length, take, drop, ap, ◌∙◌, arith}
 use lib.Seq.{take-append-le}
-use Rattle.world.specs.declared.Told.{Told}
 use Rattle.world.specs.World.{blank}
 use Rattle.world.specs.Script.{answers}
 use Rattle.world.specs.Says.{room}

@@ -1,5 +1,5 @@
 -- A call keeps the row sound and as long as it is, and touches no more words than its bound.
-use Rattle.std.proofs.Common.{◌≡◌, ℕ, ◌+◌, ◌*◌, ◌≤◌, length, ap, ◌∙◌, arith}
+use Rattle.std.proofs.Common.{ℕ, ◌+◌, ◌*◌, ◌≤◌, length, ap, ◌∙◌, arith}
 use Rattle.layout.specs.Sound.{sound}
 use Rattle.bench.proofs.Bounds.{bounded_set}
 use Rattle.bench.proofs.touching.touch_on.Goals as goal

@@ -1,5 +1,5 @@
 -- Sizes have 16 bits here, and a slot that is too large is answered as the last.
-use Rattle.std.proofs.Common.{◌≡◌, min, arith}
+use Rattle.std.proofs.Common.{min, arith}
 use Rattle.world.specs.declared.Ask.TheVariants.{New}
 use Rattle.pagzimul.proofs.Wide.{wide_new}
 use Rattle.pagzimul.proofs.Answered.{calls_as, sized_not}

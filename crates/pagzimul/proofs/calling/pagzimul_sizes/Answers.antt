@@ -1,5 +1,5 @@
 -- Numbers that are too large are answered as the last of 16 bits.
-use Rattle.std.proofs.Common.{◌≡◌, min}
+use Rattle.std.proofs.Common.{min}
 use Rattle.world.specs.declared.Ask.TheVariants.{Sizes}
 use Rattle.pagzimul.proofs.Wide.{wide_sizes}
 use Rattle.pagzimul.proofs.Answered.{calls_as}

@@ -1,5 +1,5 @@
 -- The square of so many words still fits the count.
-use Rattle.std.proofs.Common.{◌+◌, ◌*◌, length, arith, rules}
+use Rattle.std.proofs.Common.{length, rules}
 use Rattle.pagzimul.proofs.Answered.{squares}
 use Rattle.pagzimul.proofs.lending.check_lent.Goals as goal
 

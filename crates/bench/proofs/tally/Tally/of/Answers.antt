@@ -1,5 +1,5 @@
 -- One call more, and at the end all of them.
-use Rattle.std.proofs.Common.{◌≡◌, ℕ, List, get_or, take, fold, sym, ap, ◌∙◌}
+use Rattle.std.proofs.Common.{get_or, fold, sym, ap, ◌∙◌}
 use Rattle.std.proofs.lemmas.List.{take_all}
 use Rattle.std.proofs.lemmas.List.Sums.{fold_more}
 use Rattle.bench.specs.declared.tally.Tally.{Tally}

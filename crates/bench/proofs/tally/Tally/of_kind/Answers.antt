@@ -1,7 +1,6 @@
 -- A turn takes the first call and its touches off what is to come.
-use Rattle.std.proofs.Common.{◌≡◌, List, sym, ap, ◌∙◌}
+use Rattle.std.proofs.Common.{sym, ap, ◌∙◌}
 use Rattle.bench.specs.Kinds.{number_of}
-use Rattle.bench.specs.declared.kind.Kind.{Kind}
 use Rattle.std.proofs.lemmas.Slice.Zip.{Zip-more, either_empty_from_Zip}
 use Rattle.bench.proofs.Sorting.{kind_more, kind_other, kind_all}
 use Rattle.bench.proofs.tally.Tally.of_kind.Goals as goal
