@@ -6,6 +6,7 @@ ghost use Rattle.std.specs.Prelude.{◌≡◌, ◌+◌, ◌<◌, ◌≤◌, coun
 use anyhow::anyhow;
 use bench::{Random, Tally, answer_script, touch_script};
 use std::alloc::AllocError;
+use std::process::ExitCode;
 use std::{fmt, io};
 use world::{Ask, Told};
 
@@ -236,6 +237,12 @@ fn measure_all(rt: &HostRuntime) -> anyhow::Result<()> {
     Ok(())
 }
 
-fn main(rt: HostRuntime) -> anyhow::Result<()> {
-    measure_all(&rt)
+fn main(rt: HostRuntime) -> ExitCode {
+    match measure_all(&rt) {
+        Ok(()) => ExitCode::SUCCESS,
+        Err(why) => {
+            let _ = eprintln!(rt; "{why}");
+            ExitCode::FAILURE
+        }
+    }
 }

@@ -8,6 +8,7 @@ use bench::{Kind, Random, answer_script};
 use script::{AnswerText, CallText};
 use std::alloc::{AllocError, Global};
 use std::io::{BufWriter, Stdout, Write};
+use std::process::ExitCode;
 use std::{env, fmt, io};
 use world::{Ask, PlainWorld, Told};
 
@@ -254,6 +255,12 @@ fn compare(rt: &HostRuntime) -> anyhow::Result<()> {
     Ok(())
 }
 
-fn main(rt: HostRuntime) -> anyhow::Result<()> {
-    compare(&rt)
+fn main(rt: HostRuntime) -> ExitCode {
+    match compare(&rt) {
+        Ok(()) => ExitCode::SUCCESS,
+        Err(why) => {
+            let _ = eprintln!(rt; "{why}");
+            ExitCode::FAILURE
+        }
+    }
 }

@@ -5,7 +5,7 @@ use Rattle.std.specs.declared.alloc.Global.{Global}
 use Rattle.world.specs.declared.Ask.{Ask}
 use Rattle.script.specs.declared.error.LineError.{LineError}
 use Rattle.script.specs.declared.read.HeapSize.{HeapSize}
-use Rattle.script.specs.declared.read.Line.{Line as Line-read}
+use Rattle.script.specs.declared.read.Line.{Line as LineRead}
 use Rattle.script.specs.declared.read.Line.TheVariants.{Nothing, Call}
 use Rattle.script.specs.Reading.{bind, heap_size_of, passed_over, line_of}
 use Rattle.driver.specs.declared.fault.Fault.{Fault}
@@ -32,7 +32,7 @@ abbrev pub opening : List ℕ → Result (Option HeapSize) LineError
 opening line = cond (passed_over line) (Ok None) (bind (heap_size_of line) (λ h. Ok (Some h)))
 
 -- a call comes behind the others
-abbrev pub with_line : List Ask → Line-read → List Ask
+abbrev pub with_line : List Ask → LineRead → List Ask
 with_line qs Nothing = qs
 with_line qs (Call q) = qs ++ (q ∷ [])
 

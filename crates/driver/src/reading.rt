@@ -1,6 +1,6 @@
 // A whole script from standard input.
 ghost use Rattle.std.specs.Prelude.{◌≡◌, map, vec_len, string_bytes};
-ghost use Rattle.driver.specs.Reading.{opening as Opening-of, so_far, Takes, TakesAll, nothing, script_of, EndsBehind, Says, SaidByLines};
+ghost use Rattle.driver.specs.Reading.{opening as opening_of, so_far, Takes, TakesAll, nothing, script_of, EndsBehind, Says, SaidByLines};
 
 use crate::fault::Fault;
 use script::{HeapSize, Line, LineError, is_passed_over, read_heap_size, read_line};
@@ -25,7 +25,7 @@ struct Reading {
 
 // What the first line says, unless it is passed over.
 fn opening(line: &str) -> Result<Option<HeapSize>, LineError>
-    ensures { result ≡ Opening-of line.now }
+    ensures { result ≡ opening_of line.now }
 {
     if is_passed_over(line) {
         return Ok(None);
@@ -102,7 +102,7 @@ fn input_lines(rt: &HostRuntime, lines: &mut Vec<String>) -> Result<(), Fault>
 {
     let input = match BufReader::new(rt.alloc(), rt.stdin()) {
         Ok(input) => input,
-        Err(why) => return Err(Fault::Unread(lines.len() + 1, why)),
+        Err(_) => return Err(Fault::NoMemory(lines.len() + 1)),
     };
     for line in input.lines(rt.alloc()) {
         let number = lines.len() + 1;

@@ -43,7 +43,7 @@ fn answer_all(rt: &HostRuntime, out: &mut BufWriter<Stdout>) -> Result<(), Fault
     let mut machine: Option<Plain> = None;
     let input = match BufReader::new(heap, rt.stdin()) {
         Ok(input) => input,
-        Err(why) => return Err(Fault::Unread(1, why)),
+        Err(_) => return Err(Fault::NoMemory(1)),
     };
     for (before, line) in input.lines(heap).enumerate() {
         let number = before.saturating_add(1);
@@ -70,7 +70,7 @@ fn answer_all(rt: &HostRuntime, out: &mut BufWriter<Stdout>) -> Result<(), Fault
 fn play_input(rt: &HostRuntime) -> Result<(), Fault> {
     let mut out = match BufWriter::new(rt.alloc(), rt.stdout()) {
         Ok(out) => out,
-        Err(why) => return Err(Fault::Unwritten(why)),
+        Err(_) => return Err(Fault::NoMemory(1)),
     };
     let played = answer_all(rt, &mut out);
     let flushed = out.flush();

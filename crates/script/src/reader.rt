@@ -1,7 +1,7 @@
 // The numbers of a line, from the left to the end.
 ghost use Rattle.std.specs.Prelude.{◌≡◌, ℕ, ◌≤◌, [], ◌∷◌, IfOk, Ok};
 ghost use Rattle.script.specs.Tokens.{tokens};
-ghost use Rattle.script.specs.Reading.{limit, index, word, bind, next, ended as Ended-of, reads, seen};
+ghost use Rattle.script.specs.Reading.{limit, index, word, bind, next, ended as ended_of, reads, seen};
 ghost use Rattle.world.specs.declared.Ask.{Ask};
 
 use crate::error::LineError;
@@ -30,7 +30,7 @@ pub fn next_index(line: &str) -> Result<(u16, &str), LineError>
 
 // What was read, if nothing follows the last number.
 pub fn ended<T: Copy>(line: &str, read: T) -> Result<T, LineError>
-    ensures { result ≡ Ended-of read (tokens line.now) }
+    ensures { result ≡ ended_of read (tokens line.now) }
 {
     match split_token(line) {
         Some(_) => Err(LineError::TooManyNumbers),

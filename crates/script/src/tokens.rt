@@ -1,9 +1,9 @@
 // A line's tokens, one after the other: its longest runs without a space or a tab.
 ghost use Rattle.std.specs.Prelude.{◌≡◌, [], ◌∷◌, MatchOption};
-ghost use Rattle.script.specs.Tokens.{blank as blank-byte, tokens, run};
+ghost use Rattle.script.specs.Tokens.{blank as blank_byte, tokens, run};
 
 fn is_blank(byte: u8) -> bool
-    ensures { result ≡ blank-byte byte }
+    ensures { result ≡ blank_byte byte }
 {
     byte == b' ' || byte == b'\t'
 }

@@ -48,16 +48,16 @@ module _ (u v : World) (A : Alike u v) where
   pub agree : (cap : ℕ) (q : Ask) → Agree (answer cap u q) (answer cap v q)
   agree cap (New s r n) = agree_slot s (λ old. allocated cap u s r n) (λ old. allocated cap v s r n) (λ a b m. agree_new cap s r n)
   agree cap (Get t s i) =
-      agree_slot t _ _ (λ old-u old-v m. agree_slot s _ _ (λ a b n. agree_holds n _ _ (λ o p j e r. agree_nth r i 4 _ _ (λ x y k. record { said = refl; after = slot_alike u v A t k }))))
+      agree_slot t _ _ (λ old_u old_v m. agree_slot s _ _ (λ a b n. agree_holds n _ _ (λ o p j e r. agree_nth r i 4 _ _ (λ x y k. record { said = refl; after = slot_alike u v A t k }))))
   agree cap (Set s i t) =
-      agree_slot s _ _ (λ a b m. agree_slot t _ _ (λ x y n. agree_holds m _ _ (λ o p j e r. agree_nth r i 4 _ _ (λ old-u old-v k.
+      agree_slot s _ _ (λ a b m. agree_slot t _ _ (λ x y n. agree_holds m _ _ (λ o p j e r. agree_nth r i 4 _ _ (λ old_u old_v k.
       agree_set a b (record { refs = put o.refs i x; words = o.words }) (record { refs = put p.refs i y; words = p.words }) j e (meets_put r i n)))))
   agree cap (Read s i) = agree_slot s _ _ (λ a b m. agree_holds m _ _ (λ o p j e r. rw e (agree_opt (nth o.words i) _ _ (stay 4 0) (λ x. stay 1 x))))
   agree cap (Write s i x) =
       agree_slot s _ _ (λ a b m. agree_holds m _ _ (λ o p j e r. rw e (agree_opt (nth o.words i) _ _ (stay 4 0) (λ old.
       agree_set a b (record { refs = o.refs; words = put o.words i x }) (record { refs = p.refs; words = put o.words i x }) j refl r))))
-  agree cap (Copy t s) = agree_slot t _ _ (λ old-u old-v m. agree_slot s _ _ (λ a b n. record { said = refl; after = slot_alike u v A t n }))
-  agree cap (Clear t) = agree_slot t _ _ (λ old-u old-v m. record { said = refl; after = slot_alike u v A t both_none })
+  agree cap (Copy t s) = agree_slot t _ _ (λ old_u old_v m. agree_slot s _ _ (λ a b n. record { said = refl; after = slot_alike u v A t n }))
+  agree cap (Clear t) = agree_slot t _ _ (λ old_u old_v m. record { said = refl; after = slot_alike u v A t both_none })
   agree cap (Same s t) = agree_slot s _ _ (λ a b m. agree_slot t _ _ (λ x y n. rw (eqb_meet u v A m n) (stay 1 (bit (eqb b y)))))
   agree cap (Sizes s) = agree_slot s _ _ (λ a b m. agree_holds m _ _ (λ o p j e r. rw (meets_length r, e) (stay 1 (65536 * length p.refs + length o.words))))
   agree cap Collect = stay 1 0
