@@ -20,7 +20,13 @@ DECLARED = re.compile(r"^\s*(?:(?:abbrev|unfoldable|pub|data|record|ruleset)\s+)
 ANSWERS = re.compile(r"/(Answers|Invariants|Proof)\.antt$")
 QUIET = re.compile(r'"(?:[^"\\\n]|\\.)*"|(?<![^\s(){}.;,@"«»])--[^\n]*|//[^\n]*')
 LABEL = re.compile(r"^(?:if|loop|in|in_ok|in_err|else|then|match|returns|ensures|overflow|bounds|invariant|decreases)[-_]")
-UNQUOTED = re.compile(r"«([A-Z][A-Za-z0-9]*)»")
+UNQUOTED = re.compile(r"«([A-Z][A-Za-z0-9]*|world_weight)»")
+# Names that LABEL looks like, and names by which a file alone calls another.
+BESIDES = ["in-append", "in-cases", "in-here", "in-joined", "in-none", "in-object", "in-one-piece", "in-pending", "in-slot", "in-turned", "in-upto"]
+BESIDES += ["g-is", "is-sound", "no-head", "old-u", "old-v", "small-h", "words-taken", "world-weight", "blank-byte", "ended-of", "opening-of", "line-read"]
+CAPITALS = {"Ended-of": "ended_of", "Opening-of": "opening_of", "Line-read": "LineRead"}
+# A label of Rattle's in some answer is spelled like these lemmas.
+LABELS = {"weight-at", "goes-is"}
 SPAN = re.compile(r"`[^`\n]+`")
 PAGES = ["README.md"] + sorted(glob.glob("docs/*.md") + glob.glob("docs/changes/*.md"))
 
@@ -47,7 +53,8 @@ def table():
             m = DECLARED.match(line)
             if m and "-" in m[1] and not (ANSWERS.search(path) and re.search(r":\s+goal\.", line)):
                 found.add(m[1])
-    return {n: spelt(n) for n in found if not LABEL.match(n)}
+    found = {n for n in found if not LABEL.match(n)}
+    return {n: spelt(n) for n in found | set(BESIDES)} | CAPITALS
 
 
 def turned(text, names, after_dot):
@@ -65,7 +72,8 @@ def turned(text, names, after_dot):
 def not_made(text, at):
     """Whether the word behind the dot is no label of Rattle's: those stand behind goal, and hold a word of LABEL."""
     head = re.search(r"([^\s(){},;]*)\.$", text[:at])
-    return not (head and head[1].split(".")[0] == "goal")
+    first = head[1].split(".")[0] if head else ""
+    return first != "goal" and not (first in ("c", "w") and WORD.match(text, at)[0] in LABELS)
 
 
 def quietly(text, names):
