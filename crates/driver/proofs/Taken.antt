@@ -1,10 +1,11 @@
--- One line more behind those that were taken.
-use Rattle.std.proofs.Common.{◌≡◌, ℕ, ◌+◌, ◌<◌, List, [], ◌∷◌, ◌++◌, map, length, get_or, take, Ok, Err, Result, sym, refl, ap, ◌∙◌, subst}
-use Rattle.std.proofs.lemmas.List.{take_more, get_or-map}
+-- What is said of the lines that were taken so far: one line more, and how the input ends.
+use Rattle.std.proofs.Common.{◌≡◌, ℕ, ◌+◌, List, [], ◌∷◌, ◌++◌, length, get_or, Ok, Err, Result, sym, refl, ap, ◌∙◌, subst, arith}
+use Rattle.std.proofs.lemmas.List.{length-append}
+use Rattle.std.proofs.Math.Seq.{take-append_seam, get_or-append_seam}
 use Rattle.script.specs.declared.error.LineError.{LineError}
 use Rattle.script.specs.Reading.{bind}
 use Rattle.driver.specs.declared.fault.Fault.{Fault}
-use Rattle.driver.specs.Reading.{Said, after, after_all, Stops, StopsIn}
+use Rattle.driver.specs.Reading.{Said, after, after_all, Stops, EndsBehind, TakesInput}
 
 bind_ok : (r : Result Said LineError) → bind r (λ t. Ok t) ≡ r
 bind_ok (Ok t) = refl
@@ -19,23 +20,52 @@ after_push s [] l = bind_ok (after s l)
 after_push s (m ∷ ms) l =
     bind_bind (after s m) (λ t. after_all t (ms ++ l ∷ [])) (λ t. after_all t ms) (λ t. after t l) (λ t. after_push t ms l)
 
--- the line at a place, of the lines as the code holds them
-pub line_at : {X : Type 0} (f : X → List ℕ) (xs : List X) (i : ℕ) (x : X) (l : List ℕ) → i < length xs → x ≡ get_or xs i x → l ≡ f x → get_or (map f xs) i [] ≡ l
-line_at f xs i x l h is e = get_or-map f xs i x [] h ∙ ap f (sym is) ∙ sym e
+-- so many lines were taken
+pub record LinesTaken (s : Said) (n : ℕ) (t : Said) : Type 0 where
+  pub lines : List (List ℕ)
+  pub many : length lines ≡ n
+  pub taken : after_all s lines ≡ Ok t
 
-pub after_more : (s t u : Said) (ls : List (List ℕ)) (i : ℕ) (l : List ℕ) → i < length ls → get_or ls i [] ≡ l → after_all s (take i ls) ≡ Ok t → after t l ≡ Ok u → after_all s (take (i + 1) ls) ≡ Ok u
-after_more s t u ls i l h at so here =
-    ap (after_all s) (take_more ls i [] h)
-    ∙ after_push s (take i ls) (get_or ls i [])
-    ∙ ap (λ (r : Result Said LineError). bind r (λ v. after v (get_or ls i []))) so
-    ∙ ap (after t) at
-    ∙ here
+pub none_taken : (s : Said) → LinesTaken s 0 s
+none_taken s = record { lines = []; many = refl; taken = refl }
 
-pub stops_here : (s t u : Said) (ls : List (List ℕ)) (i : ℕ) (l : List ℕ) (f : Fault) → i < length ls → get_or ls i [] ≡ l → after_all s (take i ls) ≡ Ok t → Stops t (i + 1) l f × (u ≡ t) → StopsIn s ls u f
-stops_here s t u ls i l f h at so p =
+pub one_taken : (s t u : Said) (n : ℕ) (l : List ℕ) → LinesTaken s n t → after t l ≡ Ok u → LinesTaken s (n + 1) u
+one_taken s t u n l T here =
     record {
-      before = i;
-      within = h;
-      taken = so ∙ ap (λ (v : Said). Ok v) (sym p.1);
-      stops = subst (λ (v : Said). Stops v (i + 1) (get_or ls i []) f) (sym p.1) (subst (λ (k : List ℕ). Stops t (i + 1) k f) (sym at) p.0);
+      lines = T.lines ++ l ∷ [];
+      many = length-append T.lines (l ∷ []) ∙ ap (λ k. k + 1) T.many;
+      taken = after_push s T.lines l ∙ ap (λ (r : Result Said LineError). bind r (λ v. after v l)) T.taken ∙ here;
+    }
+
+-- the input ends behind the lines that were taken
+pub input_ends : (s t : Said) (n : ℕ) (input : Result (Unit {0}) Fault) → LinesTaken s n t → EndsBehind n input → TakesInput s t input
+input_ends s t n input T e =
+    record {
+      lines = T.lines;
+      end = Ok tt;
+      input = input;
+      takes = T.taken;
+      ends = subst (λ k. EndsBehind k input) (sym T.many) e;
+      is = refl;
+    }
+
+-- a line ends the reading, and leaves what was said
+pub line_ends : (s t u : Said) (n : ℕ) (l : List ℕ) (f : Fault) → LinesTaken s n t → Stops t (n + 1) l f × (u ≡ t) → TakesInput s u (Err f)
+line_ends s t u n l f T p =
+    let lines = T.lines ++ l ∷ [] in
+    let many : length T.lines ≡ n = T.many in
+    let stops : Stops t (length T.lines + 1) (get_or lines (length T.lines) []) f =
+    subst (λ (k : List ℕ). Stops t (length T.lines + 1) k f) (sym (get_or-append_seam T.lines l [] [])) (subst (λ k. Stops t (k + 1) l f) (sym many) p.0) in
+    record {
+      lines = lines;
+      end = Err f;
+      input = Ok tt;
+      takes = record {
+        before = length T.lines;
+        within = omega (arith, length-append T.lines (l ∷ []));
+        taken = ap (after_all s) (take-append_seam T.lines (l ∷ [])) ∙ T.taken ∙ ap (λ (v : Said). Ok v) (sym p.1);
+        stops = subst (λ (v : Said). Stops v (length T.lines + 1) (get_or lines (length T.lines) []) f) (sym p.1) stops;
+      };
+      ends = tt;
+      is = refl;
     }

@@ -97,6 +97,15 @@ Cuts n (Unwritten e) = ⊥
 abbrev pub EndsBehind : ℕ → Result (Unit {0}) Fault → Type 0
 EndsBehind n r = IfErr r (λ f. Cuts (n + 1) f)
 
+-- the lines of some input are taken, up to one that ends the reading; such a line counts before how the input ended
+pub record TakesInput (s t : Said) (r : Result (Unit {0}) Fault) : Type 0 where
+  pub lines : List (List ℕ)
+  pub end : Result (Unit {0}) Fault
+  pub input : Result (Unit {0}) Fault
+  pub takes : TakesAll s lines t end
+  pub ends : EndsBehind (length lines) input
+  pub is : r ≡ result_and end input
+
 -- what the lines of an input come to; a line that ends the reading counts before how the input ended
 pub record Says (lines : List (List ℕ)) (input : Result (Unit {0}) Fault) (r : Result Script Fault) : Type 0 where
   pub read : Reading

@@ -1,6 +1,6 @@
 // A whole script from standard input.
-ghost use Rattle.std.specs.Prelude.{◌≡◌, map, vec_len, string_bytes};
-ghost use Rattle.driver.specs.Reading.{opening as opening_of, so_far, Takes, TakesAll, nothing, script_of, EndsBehind, Says, SaidByLines};
+ghost use Rattle.std.specs.Prelude.{◌≡◌};
+ghost use Rattle.driver.specs.Reading.{opening as opening_of, so_far, Takes, TakesInput, nothing, script_of, SaidByLines};
 
 use crate::fault::Fault;
 use script::{HeapSize, Line, LineError, is_passed_over, read_heap_size, read_line};
@@ -68,12 +68,23 @@ impl Reading {
         }
     }
 
-    // All lines, or those before one that is refused or finds no memory.
-    fn take_lines(&mut self, lines: &[String]) -> Result<(), Fault>
-        ensures { TakesAll (so_far self.old) (map string_bytes lines.now) (so_far self.new) result }
+    // The lines of standard input, up to one that is refused, finds no memory or cannot be read.
+    fn take_input(&mut self, rt: &HostRuntime) -> Result<(), Fault>
+        ensures { TakesInput (so_far self.old) (so_far self.new) result }
     {
-        for (before, line) in lines.iter().enumerate() {
-            self.take_line(before + 1, line.as_str())?;
+        let input = match BufReader::new(rt.alloc(), rt.stdin()) {
+            Ok(input) => input,
+            Err(_) => return Err(Fault::NoMemory(1)),
+        };
+        let mut lines = input.lines(rt.alloc());
+        for before in 0..usize::MAX {
+            let Some(line) = lines.next() else {
+                break;
+            };
+            match line {
+                Ok(line) => self.take_line(before + 1, line.as_str())?,
+                Err(why) => return Err(Fault::Unread(before + 1, why)),
+            }
         }
         Ok(())
     }
@@ -96,41 +107,11 @@ impl Reading {
     }
 }
 
-// The lines of standard input, as far as they can be read.
-fn input_lines(rt: &HostRuntime, lines: &mut Vec<String>) -> Result<(), Fault>
-    ensures { EndsBehind (vec_len lines.new) result }
-{
-    let input = match BufReader::new(rt.alloc(), rt.stdin()) {
-        Ok(input) => input,
-        Err(_) => return Err(Fault::NoMemory(lines.len() + 1)),
-    };
-    for line in input.lines(rt.alloc()) {
-        let number = lines.len() + 1;
-        let line = match line {
-            Ok(line) => line,
-            Err(why) => return Err(Fault::Unread(number, why)),
-        };
-        if lines.push(line).is_err() {
-            return Err(Fault::NoMemory(number));
-        }
-    }
-    Ok(())
-}
-
-// The script that the lines of an input say; a line that is refused counts before how the input ended.
-fn script_of(heap: Global, lines: &[String], input: Result<(), Fault>) -> Result<Script, Fault>
-    ensures { Says (map string_bytes lines.now) input result }
-{
-    let mut reading = Reading::new(heap);
-    let taken = reading.take_lines(lines);
-    reading.script(taken.and(input))
-}
-
 // The script on standard input, as far as it can be read.
 pub fn read_script(rt: &HostRuntime) -> Result<Script, Fault>
     ensures { SaidByLines result }
 {
-    let mut lines = Vec::new(rt.alloc());
-    let input = input_lines(rt, &mut lines);
-    script_of(rt.alloc(), lines.as_slice(), input)
+    let mut reading = Reading::new(rt.alloc());
+    let end = reading.take_input(rt);
+    reading.script(end)
 }

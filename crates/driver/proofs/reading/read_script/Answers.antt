@@ -1,16 +1,20 @@
--- The lines are those of the input, as many as were read.
-use Rattle.std.proofs.Common.{ℕ, map, string_bytes, sym, ◌∙◌, subst}
-use Rattle.std.proofs.lemmas.List.{length-map}
-use Rattle.driver.specs.Reading.{EndsBehind}
+-- The lines are those of the input, up to one that ended the reading.
+use Rattle.std.proofs.Common.{ap, ◌∙◌, subst}
+use Rattle.driver.specs.Reading.{Said, so_far, TakesAll, script_of}
 use Rattle.driver.proofs.reading.read_script.Goals as goal
 
 pub returns : goal.returns
 returns c =
-    let lines = c.as_slice.result.now in
-    let input = c.input_lines-input.result in
+    let read = c.take_input-end.new.self in
+    let took = c.take_input-end.ensures in
     record {
-      lines = map string_bytes lines;
-      input = input;
-      ends = subst (λ (n : ℕ). EndsBehind n input) (sym (length-map lines string_bytes ∙ c.as_slice.ensures.len)) c.input_lines-input.ensures;
-      says = c.script_of.ensures;
+      lines = took.lines;
+      input = took.input;
+      ends = took.ends;
+      says = record {
+        read = read;
+        end = took.end;
+        takes = subst (λ (s : Said). TakesAll s took.lines (so_far read) took.end) c.new-reading.ensures took.takes;
+        script = c.script.ensures ∙ ap (script_of read.size read.calls) took.is;
+      };
     }
