@@ -1,5 +1,6 @@
 // Rows of words, written word by word.
-ghost use Rattle.std.specs.Prelude.{◌≡◌, ◌+◌, IfOk, vec_len};
+ghost use Rattle.std.specs.Prelude.{◌≡◌, ◌+◌, ◌%◌, ◌^◌, ◌<◌, IfOk, vec_len};
+ghost use Rattle.marking_tests.specs.Rows.{Leads, Grown, IsEmpty, IsChain, IsFan, IsTree, IsComplete, IsApart, IsEmpties, IsLast, IsNoSlots};
 
 use std::alloc::{AllocError, Global};
 use store::none_header;
@@ -14,7 +15,7 @@ pub struct Row {
 impl Row {
     // The own words and empty slots, and no object yet.
     fn new(heap: Global, slots: u16) -> Result<Row, AllocError>
-        ensures { IfOk result (λ w. (w.slots ≡ slots) × (vec_len w.words ≡ 64 + slots)) }
+        ensures { IfOk result (λ w. IsEmpty slots w.slots w.words.items) }
     {
         let mut words = vec![in heap; 0; 64 + slots as usize]?;
         words[0] = none_header().pack();
@@ -24,7 +25,9 @@ impl Row {
 
     // One object more, with empty places and words of 0; where it lies.
     fn object(&mut self, places: u16, words: u16) -> Result<usize, AllocError>
-        ensures { IfOk result (λ at. at ≡ vec_len self.old.words) }
+        ensures lies { IfOk result (λ at. at ≡ vec_len self.old.words) }
+        ensures grown { IfOk result (λ _. Grown places words self.old.words.items self.new.words.items) }
+        ensures slots { self.new.slots ≡ self.old.slots }
     {
         let at = self.words.len();
         self.words.push(Header::plain(places, words).pack())?;
@@ -39,16 +42,26 @@ impl Row {
     }
 
     // A slot leads to an object.
-    fn slot(&mut self, slot: usize, to: usize) {
+    fn slot(&mut self, slot: usize, to: usize)
+        ensures leads { Leads ((slot + 64) % 2 ^ 64) to self.old.words.items self.new.words.items }
+        ensures slots { self.new.slots ≡ self.old.slots }
+    {
         self.lead(slot.wrapping_add(64), to);
     }
 
     // A place of an object leads to another.
-    fn place(&mut self, at: usize, place: usize, to: usize) {
+    fn place(&mut self, at: usize, place: usize, to: usize)
+        ensures leads { Leads (((at + 2) % 2 ^ 64 + place) % 2 ^ 64) to self.old.words.items self.new.words.items }
+        ensures slots { self.new.slots ≡ self.old.slots }
+    {
         self.lead(at.wrapping_add(2).wrapping_add(place), to);
     }
 
-    fn lead(&mut self, cell: usize, to: usize) {
+    // A cell, if there is such a one, leads to an object.
+    fn lead(&mut self, cell: usize, to: usize)
+        ensures leads { Leads cell to self.old.words.items self.new.words.items }
+        ensures slots { self.new.slots ≡ self.old.slots }
+    {
         if let Some(word) = self.words.get_mut(cell) {
             *word = (to as u64).wrapping_mul(256);
         }
@@ -56,7 +69,9 @@ impl Row {
 }
 
 // Objects of one place, each of which leads to the next.
-pub fn chain(heap: Global, count: usize) -> Result<Row, AllocError> {
+pub fn chain(heap: Global, count: usize) -> Result<Row, AllocError>
+    ensures { IfOk result (λ row. 0 < count → count < 2 ^ 32 → IsChain count row.slots row.words.items) }
+{
     let mut row = Row::new(heap, 1)?;
     let first = row.object(1, 0)?;
     row.slot(0, first);
@@ -70,7 +85,9 @@ pub fn chain(heap: Global, count: usize) -> Result<Row, AllocError> {
 }
 
 // An object of 65,535 places, which lead to itself and to one other object by turns; that leads back.
-pub fn fan(heap: Global) -> Result<Row, AllocError> {
+pub fn fan(heap: Global) -> Result<Row, AllocError>
+    ensures { IfOk result (λ row. IsFan row.slots row.words.items) }
+{
     let mut row = Row::new(heap, 2)?;
     let wide = row.object(65535, 0)?;
     let other = row.object(1, 2)?;
@@ -83,7 +100,9 @@ pub fn fan(heap: Global) -> Result<Row, AllocError> {
 }
 
 // A full binary tree of objects with two places; object i leads to objects 2i + 1 and 2i + 2.
-pub fn tree(heap: Global, count: usize) -> Result<Row, AllocError> {
+pub fn tree(heap: Global, count: usize) -> Result<Row, AllocError>
+    ensures { IfOk result (λ row. 0 < count → count < 2 ^ 32 → IsTree count row.slots row.words.items) }
+{
     let mut row = Row::new(heap, 1)?;
     let first = row.object(2, 0)?;
     row.slot(0, first);
@@ -96,7 +115,9 @@ pub fn tree(heap: Global, count: usize) -> Result<Row, AllocError> {
 }
 
 // Objects each of which leads to every one.
-pub fn complete(heap: Global, count: u16) -> Result<Row, AllocError> {
+pub fn complete(heap: Global, count: u16) -> Result<Row, AllocError>
+    ensures { IfOk result (λ row. IsComplete count row.slots row.words.items) }
+{
     let mut row = Row::new(heap, 1)?;
     let first = row.words.len();
     for _ in 0..count {
@@ -116,15 +137,26 @@ pub fn complete(heap: Global, count: u16) -> Result<Row, AllocError> {
     Ok(row)
 }
 
-// Objects of no size beside others; one leads to itself by its second place; two are not reached.
-pub fn empties(heap: Global) -> Result<Row, AllocError> {
+// Three slots and six objects, none of which leads anywhere.
+fn beside_no_size(heap: Global) -> Result<Row, AllocError>
+    ensures { IfOk result (λ row. IsApart row.slots row.words.items) }
+{
     let mut row = Row::new(heap, 3)?;
-    let lost = row.object(0, 0)?;
-    let empty = row.object(0, 0)?;
-    let looped = row.object(2, 1)?;
-    let another = row.object(0, 0)?;
-    let holder = row.object(3, 0)?;
-    let unreached = row.object(2, 0)?;
+    let _lost = row.object(0, 0)?;
+    let _empty = row.object(0, 0)?;
+    let _looped = row.object(2, 1)?;
+    let _another = row.object(0, 0)?;
+    let _holder = row.object(3, 0)?;
+    let _unreached = row.object(2, 0)?;
+    Ok(row)
+}
+
+// Objects of no size beside others; one leads to itself by its second place; two are not reached.
+pub fn empties(heap: Global) -> Result<Row, AllocError>
+    ensures { IfOk result (λ row. IsEmpties row.slots row.words.items) }
+{
+    let mut row = beside_no_size(heap)?;
+    let (lost, empty, looped, another, holder, unreached) = (67, 69, 71, 76, 78, 83);
     row.slot(0, empty);
     row.slot(2, holder);
     row.place(looped, 1, looped);
@@ -137,7 +169,9 @@ pub fn empties(heap: Global) -> Result<Row, AllocError> {
 }
 
 // The last object ends where the words end, and its last place leads to the first object.
-pub fn last(heap: Global) -> Result<Row, AllocError> {
+pub fn last(heap: Global) -> Result<Row, AllocError>
+    ensures { IfOk result (λ row. IsLast row.slots row.words.items) }
+{
     let mut row = Row::new(heap, 1)?;
     let first = row.object(1, 4)?;
     let unreached = row.object(1, 0)?;
@@ -150,7 +184,9 @@ pub fn last(heap: Global) -> Result<Row, AllocError> {
 }
 
 // No slots, so that nothing is reached.
-pub fn no_slots(heap: Global) -> Result<Row, AllocError> {
+pub fn no_slots(heap: Global) -> Result<Row, AllocError>
+    ensures { IfOk result (λ row. IsNoSlots row.slots row.words.items) }
+{
     let mut row = Row::new(heap, 0)?;
     let alone = row.object(1, 1)?;
     row.place(alone, 0, alone);

@@ -1,0 +1,2 @@
+-- Rows in which a cell was led elsewhere.
+pub mod Leading
