@@ -1,13 +1,12 @@
 // A whole script on lent words, from the beginning.
-ghost use Rattle.std.specs.Prelude.{◌≡◌, ℕ, ◌+◌, ◌<◌, ◌≤◌, true, length, MatchResult};
+ghost use Rattle.std.specs.Prelude.{◌≡◌, ◌<◌, ◌≤◌, length, MatchResult};
 ghost use Rattle.std.proofs.Math.Option.{some, none};
 ghost use Rattle.world.specs.declared.refusal.Refusal.TheVariants.{NoSlot};
 ghost use Rattle.world.specs.Base.{nth};
-ghost use Rattle.world.specs.World.{Alike, blank};
-ghost use Rattle.world.specs.Script.{answer, answers};
-ghost use Rattle.world.specs.Refusals.{answer_of, said};
-ghost use Rattle.layout.specs.Cells.{base, world_of};
-ghost use Rattle.layout.specs.Sound.{sound};
+ghost use Rattle.world.specs.World.{blank};
+ghost use Rattle.world.specs.Script.{answer};
+ghost use Rattle.world.specs.Refusals.{said};
+ghost use Rattle.layout.specs.Cells.{world_of};
 ghost use Rattle.world.specs.Says.{room};
 ghost use Rattle.store.specs.Ready.{Ready};
 ghost use Rattle.heap.specs.Says.{PlaySays, Tells};
@@ -64,13 +63,14 @@ fn without_words(slots: u16, q: &Ask) -> Result<u64, Refusal>
     }
 }
 
-// A whole script where there are not words enough.
+// A whole script where there are not words enough. Zipped with `iter_mut`, nothing is known of what was written: so here and below
+// an answer goes to the place that `enumerate` says.
 fn play_without_words(script: &[Ask], slots: u16, out: &mut [Told])
     requires { length script.now ≤ length out.old }
     ensures { Tells 0 (blank slots) script.now out.old out.new }
 {
     for (i, q) in script.iter().enumerate() {
-        out[i] = Told::of(without_words(slots, q));
+        out[i] = Told::from(without_words(slots, q));
     }
 }
 

@@ -2,8 +2,6 @@
 ghost use Rattle.layout.specs.Examples.{SoundRows};
 
 // A small sound row with its world, and a row that is unsound for each reason there is.
-pub fn sound_rows() -> u8
+pub fn sound_rows()
     ensures { SoundRows }
-{
-    0
-}
+{}

@@ -1,17 +1,24 @@
--- A loop from header to header: what it has touched, and what it still has to find out.
-use Rattle.std.proofs.Common.{◌≡◌, ℕ, ◌+◌, ◌<◌, ◌≤◌, List, get_or, refl, ap, ◌∙◌, arith}
+-- A loop from object to object: what it has touched, and what it still has to find out.
+use Rattle.std.proofs.Common.{◌≡◌, ℕ, ◌+◌, List, get_or, refl, ap, ◌∙◌, arith}
+use Rattle.words.specs.declared.Words.{Ghosts}
 use Rattle.words.specs.declared.header.Header.{Header}
 use Rattle.words.specs.Header.{places_of, words_of, unpacked}
 use Rattle.layout.specs.Cells.{cell, span, base, layout}
 use Rattle.layout.proofs.Rests.{rest, rest_layout}
+use Rattle.store.specs.declared.cursor.Objects.{Objects}
+use Rattle.store.specs.declared.manager.Manager.{Manager}
+use Rattle.store.specs.declared.objects.Object.{Object}
+use Rattle.store.specs.Cursor.{Passes}
+use Rattle.store.specs.Frame.{Looks, TouchesAtMost}
+use Rattle.store.proofs.Framing.{looked}
 use Rattle.soundness.specs.Walkable.{Walkable}
 
 -- nothing is changed, and each step over two words or more touched one
-pub record Going (row row' : List ℕ) (slots slots' touched touched' at free : ℕ) : Type 0 where
-  pub same : row' ≡ row
-  pub slots_same : slots' ≡ slots
-  pub few : touched' ≤ touched + at
-  pub most : touched' ≤ touched + free
+pub record Going {W : Type 0} (w : Ghosts W) (m m' : Manager W) (c : Objects) (free : ℕ) : Type 0 where
+  pub looks : Looks w m m'
+  pub end : c.end ≡ free
+  pub few : TouchesAtMost c.at.0 w m m'
+  pub most : TouchesAtMost free w m m'
 
 -- the next header
 pub header_span : (row row' : List ℕ) (at : ℕ) (h : Header) (w : ℕ) → row' ≡ row → h ≡ unpacked (get_or row' at 0) → w ≡ 2 + (h.places + h.words) → w ≡ span (cell at (get_or row at 0))
@@ -28,12 +35,9 @@ rest_first slots row free at k e =
     let f = k.free_is in
     cc
 
--- one header more
-pub going_none : (row : List ℕ) (slots touched at free : ℕ) → Going row row slots slots touched touched at free
-going_none row slots touched at free = record { same = refl; slots_same = refl; few = omega arith; most = omega arith }
+-- at first, and one step more
+pub going_none : {W : Type 0} {w : Ghosts W} {m : Manager W} (c : Objects) → Going w m m c c.end
+going_none c = record { looks = record { same = refl; frame = record { slots = refl; lender = refl } }; end = refl; few = omega arith; most = omega arith }
 
-pub going_more : (row row1 row2 : List ℕ) (slots slots1 slots2 touched touched1 touched2 at w free : ℕ) → Going row row1 slots slots1 touched touched1 at free → at < free
-    → row2 ≡ row1 → slots2 ≡ slots1 → touched2 ≡ touched1 + 1 → 2 ≤ w → Going row row2 slots slots2 touched touched2 (at + w) free
-going_more row row1 row2 slots slots1 slots2 touched touched1 touched2 at w free k l e f t b =
-    let i = k.few in
-    record { same = e ∙ k.same; slots_same = f ∙ k.slots_same; few = omega arith; most = omega arith }
+pub going_more : {W : Type 0} {w : Ghosts W} {l m n : Manager W} {c c' : Objects} {o : Object} {free : ℕ} → Going w l m c free → Passes w c c' m n o → Going w l n c' free
+going_more k p = record { looks = looked p.looks k.looks; end = p.end ∙ k.end; few = omega arith; most = omega arith }

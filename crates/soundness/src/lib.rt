@@ -1,12 +1,13 @@
 // Is a row of words sound? It is decided by looking through the row alone, and the row stays as it is.
 #![tactic(auto)]
 
-ghost use Rattle.std.specs.Prelude.{◌≡◌, ℕ, ◌+◌, ◌*◌, ◌<◌, ◌≤◌, true, ◌&&◌, length, ◌==◌, nat_lt, slice_index};
-ghost use Rattle.layout.specs.Cells.{base, free_of, layout, number, seg};
+ghost use Rattle.std.specs.Prelude.{◌≡◌, ◌+◌, ◌*◌, ◌<◌, ◌≤◌, true, ◌&&◌, length, ◌==◌, nat_lt, slice_index};
+ghost use Rattle.layout.specs.Cells.{base, layout, number, seg};
 ghost use Rattle.layout.specs.Sound.{all_of, cell_ok, ends, none_header, reference_ok, root_header, sound};
-ghost use Rattle.soundness.specs.Walkable.{Walkable};
+ghost use Rattle.soundness.specs.Walkable.{IsWalkable};
+ghost use Rattle.store.specs.Frame.{Looks, TouchesAtMost};
 
-use store::{Manager, none_header};
+use store::{Manager, Object, Objects, ROOT, none_header};
 use words::Words;
 use words::header::Header;
 use words::names::Addr;
@@ -17,10 +18,8 @@ pub fn is_sound<W: Words>(m: &mut Manager<W>) -> bool
     requires short { length (W.Words.row m.old.words) < 72057594037927936 }
     requires few { W.touched m.old.words + length (W.Words.row m.old.words) * (1 + length (W.Words.row m.old.words)) ≤ 9223372036854775808 }
     ensures value { result ≡ sound m.old.slots (W.Words.row m.old.words) }
-    ensures same { W.Words.row m.new.words ≡ W.Words.row m.old.words }
-    ensures slots { m.new.slots ≡ m.old.slots }
-    ensures lender { W.lender m.new.words ≡ W.lender m.old.words }
-    ensures touches { W.touched m.new.words ≤ W.touched m.old.words + length (W.Words.row m.old.words) * (1 + length (W.Words.row m.old.words)) }
+    ensures looks { Looks W.Words m.old m.new }
+    ensures touches { TouchesAtMost (length (W.Words.row m.old.words) * (1 + length (W.Words.row m.old.words))) W.Words m.old m.new }
 {
     if !has_sentinels(m) {
         return false;
@@ -43,61 +42,53 @@ fn has_sentinels<W: Words>(m: &mut Manager<W>) -> bool
     requires fits { 64 + m.old.slots ≤ length (W.Words.row m.old.words) }
     requires few { W.touched m.old.words + 2 ≤ 9223372036854775808 }
     ensures value { result ≡ (slice_index (W.Words.row m.old.words) 0 == none_header) && (slice_index (W.Words.row m.old.words) 62 == root_header m.old.slots) }
-    ensures same { W.Words.row m.new.words ≡ W.Words.row m.old.words }
-    ensures slots { m.new.slots ≡ m.old.slots }
-    ensures lender { W.lender m.new.words ≡ W.lender m.old.words }
-    ensures touches { W.touched m.new.words ≤ W.touched m.old.words + 2 }
+    ensures looks { Looks W.Words m.old m.new }
+    ensures touches { TouchesAtMost 2 W.Words m.old m.new }
 {
-    m.words.get(0) == none_header().pack() && m.words.get(62) == Header::plain(m.slots, 0).pack()
+    m.words.get(0) == none_header().pack() && m.words.get(ROOT) == Header::plain(m.slots, 0).pack()
 }
 
-// Do the objects, from header to header, end where the free words begin?
+// Do the objects, from header to header, end where the free words begin? Here and below `free` is no field beside the
+// manager: a struct that borrows it would name the row behind a borrow in each clause.
 fn tiles<W: Words>(m: &mut Manager<W>, free: usize) -> bool
-    requires walkable { Walkable m.old.slots (W.Words.row m.old.words) free }
+    requires walkable { IsWalkable free W.Words m.old }
     requires few { W.touched m.old.words + free ≤ 9223372036854775808 }
     ensures value { result ≡ ends (layout m.old.slots (W.Words.row m.old.words)) (base m.old.slots) free }
-    ensures same { W.Words.row m.new.words ≡ W.Words.row m.old.words }
-    ensures slots { m.new.slots ≡ m.old.slots }
-    ensures lender { W.lender m.new.words ≡ W.lender m.old.words }
-    ensures touches { W.touched m.new.words ≤ W.touched m.old.words + free }
+    ensures looks { Looks W.Words m.old m.new }
+    ensures touches { TouchesAtMost free W.Words m.old m.new }
 {
-    let mut at = m.base();
-    while at < free {
-        at += m.header(Addr(at)).weight();
-    }
-    at == free
+    let at = Addr(m.base());
+    let mut objects = Objects { at, end: free };
+    while let Some(_) = objects.next(m) {}
+    objects.at.0 == free
 }
 
 // Does an object begin there?
 fn begins<W: Words>(m: &mut Manager<W>, free: usize, there: Addr) -> bool
-    requires walkable { Walkable m.old.slots (W.Words.row m.old.words) free }
+    requires walkable { IsWalkable free W.Words m.old }
     requires few { W.touched m.old.words + free ≤ 9223372036854775808 }
     ensures value { result ≡ nat_lt 0 (number (layout m.old.slots (W.Words.row m.old.words)) there.0) }
-    ensures same { W.Words.row m.new.words ≡ W.Words.row m.old.words }
-    ensures slots { m.new.slots ≡ m.old.slots }
-    ensures lender { W.lender m.new.words ≡ W.lender m.old.words }
-    ensures touches { W.touched m.new.words ≤ W.touched m.old.words + free }
+    ensures looks { Looks W.Words m.old m.new }
+    ensures touches { TouchesAtMost free W.Words m.old m.new }
 {
-    let mut at = m.base();
-    while at < free {
-        if at == there.0 {
+    let at = Addr(m.base());
+    let mut objects = Objects { at, end: free };
+    while let Some(object) = objects.next(m) {
+        if object.at == there {
             return true;
         }
-        at += m.header(Addr(at)).weight();
     }
     false
 }
 
 // Is there a reference at a word: none or where an object begins, with a low byte of 0?
 fn is_reference<W: Words>(m: &mut Manager<W>, free: usize, at: usize) -> bool
-    requires walkable { Walkable m.old.slots (W.Words.row m.old.words) free }
+    requires walkable { IsWalkable free W.Words m.old }
     requires within { at < length (W.Words.row m.old.words) }
     requires few { W.touched m.old.words + (1 + free) ≤ 9223372036854775808 }
     ensures value { result ≡ reference_ok (layout m.old.slots (W.Words.row m.old.words)) (slice_index (W.Words.row m.old.words) at) }
-    ensures same { W.Words.row m.new.words ≡ W.Words.row m.old.words }
-    ensures slots { m.new.slots ≡ m.old.slots }
-    ensures lender { W.lender m.new.words ≡ W.lender m.old.words }
-    ensures touches { W.touched m.new.words ≤ W.touched m.old.words + (1 + free) }
+    ensures looks { Looks W.Words m.old m.new }
+    ensures touches { TouchesAtMost (1 + free) W.Words m.old m.new }
 {
     let reference = m.reference(at);
     if reference.tag != 0 {
@@ -111,15 +102,14 @@ fn is_reference<W: Words>(m: &mut Manager<W>, free: usize, at: usize) -> bool
 
 // Are there references in so many words?
 fn are_references<W: Words>(m: &mut Manager<W>, free: usize, from: usize, count: usize) -> bool
-    requires walkable { Walkable m.old.slots (W.Words.row m.old.words) free }
+    requires walkable { IsWalkable free W.Words m.old }
     requires within { from + count ≤ length (W.Words.row m.old.words) }
     requires few { W.touched m.old.words + count * (1 + free) ≤ 9223372036854775808 }
     ensures value { result ≡ all_of (reference_ok (layout m.old.slots (W.Words.row m.old.words))) (seg (W.Words.row m.old.words) from count) }
-    ensures same { W.Words.row m.new.words ≡ W.Words.row m.old.words }
-    ensures slots { m.new.slots ≡ m.old.slots }
-    ensures lender { W.lender m.new.words ≡ W.lender m.old.words }
-    ensures touches { W.touched m.new.words ≤ W.touched m.old.words + count * (1 + free) }
+    ensures looks { Looks W.Words m.old m.new }
+    ensures touches { TouchesAtMost (count * (1 + free)) W.Words m.old m.new }
 {
+    // No `all`: a closure that touches the words leaves nothing known of them.
     for i in 0..count {
         if !is_reference(m, free, from + i) {
             return false;
@@ -130,25 +120,22 @@ fn are_references<W: Words>(m: &mut Manager<W>, free: usize, from: usize, count:
 
 // Has every object a plain header without a mark, and references in its places?
 fn are_objects<W: Words>(m: &mut Manager<W>, free: usize) -> bool
-    requires walkable { Walkable m.old.slots (W.Words.row m.old.words) free }
+    requires walkable { IsWalkable free W.Words m.old }
     requires tiled { ends (layout m.old.slots (W.Words.row m.old.words)) (base m.old.slots) free ≡ true }
     requires few { W.touched m.old.words + free * (1 + free) ≤ 9223372036854775808 + base m.old.slots * (1 + free) }
     ensures value { result ≡ all_of (cell_ok (layout m.old.slots (W.Words.row m.old.words)) (W.Words.row m.old.words)) (layout m.old.slots (W.Words.row m.old.words)) }
-    ensures same { W.Words.row m.new.words ≡ W.Words.row m.old.words }
-    ensures slots { m.new.slots ≡ m.old.slots }
-    ensures lender { W.lender m.new.words ≡ W.lender m.old.words }
+    ensures looks { Looks W.Words m.old m.new }
     ensures touches { W.touched m.new.words + base m.old.slots * (1 + free) ≤ W.touched m.old.words + free * (1 + free) }
 {
-    let mut at = m.base();
-    while at < free {
-        let header = m.header(Addr(at));
+    let at = Addr(m.base());
+    let mut objects = Objects { at, end: free };
+    while let Some(Object { at, header }) = objects.next(m) {
         if header.mark != 0 || header.kind != 0 {
             return false;
         }
-        if !are_references(m, free, at + 2, header.places as usize) {
+        if !are_references(m, free, at.0 + 2, header.places as usize) {
             return false;
         }
-        at += header.weight();
     }
     true
 }

@@ -1,3 +1,4 @@
 -- Lemmas on what the manager finds in a sound row.
 pub mod Finding
+pub mod Framing
 pub mod Wiping

@@ -2,11 +2,13 @@
 #![tactic(auto)]
 
 mod access;
+mod cursor;
 mod empty;
 mod manager;
 mod objects;
 mod slots;
 
+pub use cursor::Objects;
 pub use empty::{fits, none_header, start};
-pub use manager::Manager;
+pub use manager::{Manager, ROOT};
 pub use objects::Object;

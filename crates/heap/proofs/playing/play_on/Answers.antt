@@ -9,7 +9,7 @@ loop-i-preserved c =
     let k = c.call.ensures.calls in
     let inv = c.loop-i.invariant in
     let short : c.loop-i.i < length c.loop-i.out = omega (arith, c.requires.room, c.loop-i-test.true, c.loop-i.auto.out) in
-    let slots = c.call.ensures.slots in (
+    let slots = c.call.ensures.frame.slots in (
       slots ∙ inv.0,
       k.long ∙ inv.1,
       ap (λ (n : ℕ). sound n c.call.new.m.words.words.now) slots ∙ k.stays,
