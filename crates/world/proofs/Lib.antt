@@ -10,7 +10,6 @@ pub mod Steps
 pub mod Agrees
 pub mod Equivalence
 pub mod Cases
-pub mod Meeting
 pub mod Walking
 pub mod Finding
 pub mod Doing

@@ -6,5 +6,7 @@ pub mod Says
 pub mod Laws
 pub mod Examples
 pub mod Refusals
+pub mod Seen
 pub mod View
+pub mod Flags
 pub mod Met

@@ -3,7 +3,7 @@ ghost use Rattle.std.specs.Prelude.{◌≡◌, ◌<◌, vec_len};
 
 use std::alloc::Global;
 
-// A place holds an object's number, or 0 for none. There are fewer than 65,536 of each.
+// A place holds an object's number, or 0 for none, as in the specification. There are fewer than 65,536 of each.
 #[derive(Drop)]
 pub struct Object {
     pub places: Vec<usize>,
