@@ -29,11 +29,11 @@ pub record LinesTaken (s : Said) (n : ℕ) (t : Said) : Type 0 where
 pub none_taken : (s : Said) → LinesTaken s 0 s
 none_taken s = record { lines = []; many = refl; taken = refl }
 
-pub one_taken : (s t u : Said) (n : ℕ) (l : List ℕ) → LinesTaken s n t → after t l ≡ Ok u → LinesTaken s (n + 1) u
-one_taken s t u n l T here =
+pub one_taken : (s t u : Said) (n k : ℕ) (l : List ℕ) → LinesTaken s n t → k ≡ n + 1 → after t l ≡ Ok u → LinesTaken s k u
+one_taken s t u n k l T e here =
     record {
       lines = T.lines ++ l ∷ [];
-      many = length-append T.lines (l ∷ []) ∙ ap (λ k. k + 1) T.many;
+      many = length-append T.lines (l ∷ []) ∙ ap (λ j. j + 1) T.many ∙ sym e;
       taken = after_push s T.lines l ∙ ap (λ (r : Result Said LineError). bind r (λ v. after v l)) T.taken ∙ here;
     }
 
@@ -50,12 +50,12 @@ input_ends s t n input T e =
     }
 
 -- a line ends the reading, and leaves what was said
-pub line_ends : (s t u : Said) (n : ℕ) (l : List ℕ) (f : Fault) → LinesTaken s n t → Stops t (n + 1) l f × (u ≡ t) → TakesInput s u (Err f)
-line_ends s t u n l f T p =
+pub line_ends : (s t u : Said) (n k : ℕ) (l : List ℕ) (f : Fault) → LinesTaken s n t → k ≡ n + 1 → Stops t k l f × (u ≡ t) → TakesInput s u (Err f)
+line_ends s t u n k l f T e p =
     let lines = T.lines ++ l ∷ [] in
-    let many : length T.lines ≡ n = T.many in
+    let many : k ≡ length T.lines + 1 = e ∙ ap (λ j. j + 1) (sym T.many) in
     let stops : Stops t (length T.lines + 1) (get_or lines (length T.lines) []) f =
-    subst (λ (k : List ℕ). Stops t (length T.lines + 1) k f) (sym (get_or-append_seam T.lines l [] [])) (subst (λ k. Stops t (k + 1) l f) (sym many) p.0) in
+    subst (λ (m : List ℕ). Stops t (length T.lines + 1) m f) (sym (get_or-append_seam T.lines l [] [])) (subst (λ j. Stops t j l f) many p.0) in
     record {
       lines = lines;
       end = Err f;

@@ -5,8 +5,6 @@ use Rattle.std.specs.declared.alloc.Global.{Global}
 use Rattle.world.specs.declared.Ask.{Ask}
 use Rattle.script.specs.declared.error.LineError.{LineError}
 use Rattle.script.specs.declared.read.HeapSize.{HeapSize}
-use Rattle.script.specs.declared.read.Line.{Line as LineRead}
-use Rattle.script.specs.declared.read.Line.TheVariants.{Nothing, Call}
 use Rattle.script.specs.Reading.{bind, heap_size_of, passed_over, line_of}
 use Rattle.driver.specs.declared.fault.Fault.{Fault}
 use Rattle.driver.specs.declared.fault.Fault.TheVariants.{Line, Unread, NoMemory, NoFirstLine, Unwritten}
@@ -32,9 +30,9 @@ abbrev pub opening : List ℕ → Result (Option HeapSize) LineError
 opening line = cond (passed_over line) (Ok None) (bind (heap_size_of line) (λ h. Ok (Some h)))
 
 -- a call comes behind the others
-abbrev pub with_line : List Ask → LineRead → List Ask
-with_line qs Nothing = qs
-with_line qs (Call q) = qs ++ (q ∷ [])
+abbrev pub with_line : List Ask → Option Ask → List Ask
+with_line qs None = qs
+with_line qs (Some q) = qs ++ (q ∷ [])
 
 -- one line more
 abbrev pub one_more : Option HeapSize → List Ask → List ℕ → Result Said LineError

@@ -17,6 +17,7 @@ pub enum Fault {
     Unwritten(io::Error),
 }
 
+// Written by hand: what thiserror derives promises nothing of the text.
 impl fmt::Display for Fault {
     ghost output = { λ f. fault_text f };
 

@@ -1,5 +1,7 @@
-// The answers on standard output, and a fault on standard error.
-ghost use Rattle.std.specs.Prelude.{◌≡◌};
+// The answers on standard output, a fault on standard error, and the status that a program ends with.
+ghost use Rattle.std.specs.Prelude.{◌≡◌, cond};
+ghost use Rattle.std.specs.Process.{exit_status};
+ghost use Rattle.std.specs.Result.{is_ok};
 ghost use Rattle.driver.specs.Playing.{Answered, Ends};
 
 use crate::fault::Fault;
@@ -7,6 +9,7 @@ use crate::reading::Script;
 use script::AnswerText;
 use std::alloc::AllocError;
 use std::io::{BufWriter, Write};
+use std::process::ExitCode;
 use std::{fmt, io};
 use world::Told;
 
@@ -28,13 +31,9 @@ pub fn print_answers(
     requires { Answered script told }
     ensures { Ends script told result }
 {
-    let Ok(told) = told else {
-        return Err(Fault::NoMemory(1));
-    };
-    match print(rt, told.as_slice()) {
-        Ok(()) => script.end,
-        Err(why) => Err(Fault::Unwritten(why)),
-    }
+    let told = told.map_err(|_| Fault::NoMemory(1))?;
+    print(rt, told.as_slice()).map_err(Fault::Unwritten)?;
+    script.end
 }
 
 // Says on standard error why a program failed, and hands that on.
@@ -45,4 +44,14 @@ pub fn report<E: fmt::Display + Drop>(rt: &HostRuntime, done: Result<(), E>) -> 
         let _ = eprintln!(rt; "{why}");
     }
     done
+}
+
+// The status that a program ends with: 0 where all was done, else 1, and why is said on standard error.
+pub fn exit_code<E: fmt::Display + Drop>(rt: &HostRuntime, done: Result<(), E>) -> ExitCode
+    ensures { exit_status result ≡ cond (is_ok done) 0 1 }
+{
+    match report(rt, done) {
+        Ok(()) => ExitCode::SUCCESS,
+        Err(_) => ExitCode::FAILURE,
+    }
 }

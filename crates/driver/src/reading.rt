@@ -3,7 +3,7 @@ ghost use Rattle.std.specs.Prelude.{◌≡◌};
 ghost use Rattle.driver.specs.Reading.{opening as opening_of, so_far, Takes, TakesInput, nothing, script_of, SaidByLines};
 
 use crate::fault::Fault;
-use script::{HeapSize, Line, LineError, is_passed_over, read_heap_size, read_line};
+use script::{HeapSize, LineError, is_passed_over, read_heap_size, read_line};
 use std::alloc::Global;
 use std::io::{BufRead, BufReader};
 use world::Ask;
@@ -50,21 +50,12 @@ impl Reading {
         ensures { Takes (so_far self.old) number line.now (so_far self.new) result }
     {
         if self.size.is_none() {
-            return match opening(line) {
-                Ok(size) => {
-                    self.size = size;
-                    Ok(())
-                }
-                Err(why) => Err(Fault::Line(number, why)),
-            };
+            self.size = opening(line).map_err(|why| Fault::Line(number, why))?;
+            return Ok(());
         }
-        match read_line(line) {
-            Ok(Line::Nothing) => Ok(()),
-            Ok(Line::Call(ask)) => match self.calls.push(ask) {
-                Ok(()) => Ok(()),
-                Err(_) => Err(Fault::NoMemory(number)),
-            },
-            Err(why) => Err(Fault::Line(number, why)),
+        match read_line(line).map_err(|why| Fault::Line(number, why))? {
+            None => Ok(()),
+            Some(ask) => self.calls.push(ask).map_err(|_| Fault::NoMemory(number)),
         }
     }
 
@@ -72,19 +63,11 @@ impl Reading {
     fn take_input(&mut self, rt: &HostRuntime) -> Result<(), Fault>
         ensures { TakesInput (so_far self.old) (so_far self.new) result }
     {
-        let input = match BufReader::new(rt.alloc(), rt.stdin()) {
-            Ok(input) => input,
-            Err(_) => return Err(Fault::NoMemory(1)),
-        };
-        let mut lines = input.lines(rt.alloc());
-        for before in 0..usize::MAX {
-            let Some(line) = lines.next() else {
-                break;
-            };
-            match line {
-                Ok(line) => self.take_line(before + 1, line.as_str())?,
-                Err(why) => return Err(Fault::Unread(before + 1, why)),
-            }
+        let heap = rt.alloc();
+        let input = BufReader::new(heap, rt.stdin()).map_err(|_| Fault::NoMemory(1))?;
+        for (number, line) in (1..).zip(input.lines(heap)) {
+            let line = line.map_err(|why| Fault::Unread(number, why))?;
+            self.take_line(number, line.as_str())?;
         }
         Ok(())
     }
@@ -93,17 +76,14 @@ impl Reading {
     fn script(self, end: Result<(), Fault>) -> Result<Script, Fault>
         ensures { result ≡ script_of self.size self.calls end }
     {
-        match self.size {
-            Some(size) => Ok(Script {
-                size,
-                calls: self.calls,
-                end,
-            }),
-            None => match end {
-                Ok(()) => Err(Fault::NoFirstLine),
-                Err(fault) => Err(fault),
-            },
-        }
+        let Some(size) = self.size else {
+            return Err(end.err().unwrap_or(Fault::NoFirstLine));
+        };
+        Ok(Script {
+            size,
+            calls: self.calls,
+            end,
+        })
     }
 }
 

@@ -3,8 +3,8 @@
 
 ghost use Rattle.driver.specs.Playing.{Answered};
 
-use bench::answer_script;
-use driver::{Fault, Script, print_answers, read_script, report};
+use bench::Game;
+use driver::{Fault, Script, exit_code, print_answers, read_script};
 use std::alloc::{AllocError, Global};
 use std::process::ExitCode;
 use world::Told;
@@ -12,12 +12,12 @@ use world::Told;
 fn answer(heap: Global, script: &Script) -> Result<Vec<Told>, AllocError>
     ensures { Answered script.now result }
 {
-    answer_script(
-        heap,
-        script.size.words,
-        script.size.slots,
-        script.calls.as_slice(),
-    )
+    let game = Game {
+        words: script.size.words,
+        slots: script.size.slots,
+        calls: script.calls.as_slice(),
+    };
+    game.answers(heap)
 }
 
 fn play_script(rt: &HostRuntime) -> Result<(), Fault> {
@@ -27,8 +27,5 @@ fn play_script(rt: &HostRuntime) -> Result<(), Fault> {
 }
 
 fn main(rt: HostRuntime) -> ExitCode {
-    match report(&rt, play_script(&rt)) {
-        Ok(()) => ExitCode::SUCCESS,
-        Err(_) => ExitCode::FAILURE,
-    }
+    exit_code(&rt, play_script(&rt))
 }

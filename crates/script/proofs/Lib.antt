@@ -1,7 +1,7 @@
 -- Lemmas on tokens, decimals and calls.
-pub mod Runs
+pub mod Cuts
 pub mod Values
+pub mod Indices
 pub mod Bodies
-pub mod Names
 pub mod Spelt
 pub mod Printed

@@ -1,22 +1,18 @@
 -- What is printed of a call is read as that call.
-use Rattle.std.proofs.Common.{◌≡◌, ℕ, ◌^◌, ◌<◌, Bool, true, false, not, ◌&&◌, eqb, ltb, leb, List, [], ◌∷◌, ◌++◌, map, length, decimal, refl, ap, ◌∙◌, arith, rules}
+use Rattle.std.proofs.Common.{◌≡◌, ℕ, zero, suc, ◌^◌, ◌<◌, Bool, true, false, not, ◌&&◌, eqb, ltb, leb, List, [], ◌∷◌, ◌++◌, map, length, decimal, refl, ap, ◌∙◌, arith}
 use Rattle.std.specs.Char.{is_ascii_digit}
 use Rattle.std.specs.Str.{all_ascii_digits}
 use Rattle.std.proofs.lemmas.Fmt.{digits_decimal, digits_value-decimal, decimal_nonempty}
-use Rattle.std.proofs.lemmas.Str.Parse.{IsNumeralModel, numerals_by_fold}
 use Rattle.std.proofs.lemmas.Bool.{and_parts, and_from, leb-true, lt-ltb, ltb-true, ne_eqb, or_from, not-true, not_from_false}
 use Rattle.world.specs.declared.Ask.{Ask}
 use Rattle.world.specs.declared.Ask.TheVariants.{New, Get, Set, Read, Write, Copy, Clear, Same, Sizes, Collect}
 use Rattle.script.specs.Text.{name, numbers, spaced, call_text}
 use Rattle.script.specs.Tokens.{blank, pieces, filled, tokens}
-use Rattle.script.specs.Numbers.{value_after}
 use Rattle.script.specs.Reading.{body}
 use Rattle.script.specs.Spelling.{WriteAll, Fits, ReadsBack}
-use Rattle.script.proofs.Runs.{filled_some}
+use Rattle.script.proofs.Cuts.{Dense, filled_some, word_first}
+use Rattle.script.proofs.Values.{own}
 use Rattle.script.proofs.Spelt.{reads_what_is_spelt}
-
-own : IsNumeralModel (λ ds. all_ascii_digits ds ≡ true) (value_after 0)
-own = numerals_by_fold _ (search rules) value_after (search rules)
 
 -- bytes that can be seen: no blank and no carriage return
 abbrev graphic : List ℕ → Bool
@@ -36,14 +32,10 @@ graphic_decimal n h = graphic_digits (decimal n) (digits_decimal own n h)
 dark : (c : ℕ) → ltb 32 c ≡ true → blank c ≡ false
 dark c h = let l = ltb-true 32 c h in or_from _ _ (ne_eqb c 32 (λ e. omega arith)) (ne_eqb c 9 (λ e. omega arith))
 
--- a seen word before an empty piece is a piece
-word_first : (w r : List ℕ) (ps : List (List ℕ)) → graphic w ≡ true → pieces r ≡ [] ∷ ps → pieces (w ++ r) ≡ w ∷ ps
-word_first [] r ps g e = e
-word_first (c ∷ cs) r ps g e =
-    let p = and_parts (ltb 32 c) (graphic cs) g in
-    let d = dark c p.0 in
-    let h = word_first cs r ps p.1 e in
-    rw (d, h)
+dense_graphic : (w : List ℕ) → graphic w ≡ true → Dense w
+dense_graphic [] g i l = absurd (omega arith)
+dense_graphic (c ∷ cs) g zero l = dark c (and_parts (ltb 32 c) (graphic cs) g).0
+dense_graphic (c ∷ cs) g (suc i) l = dense_graphic cs (and_parts (ltb 32 c) (graphic cs) g).1 i (omega arith)
 
 abbrev Small : List ℕ → Type 0
 Small [] = Unit {0}
@@ -51,7 +43,7 @@ Small (n ∷ ns) = (n < 2 ^ 64) × Small ns
 
 pieces_spaced : (ns : List ℕ) → Small ns → pieces (spaced ns) ≡ [] ∷ map decimal ns
 pieces_spaced [] s = refl
-pieces_spaced (n ∷ ns) s = ap (λ (l : List (List ℕ)). [] ∷ l) (word_first (decimal n) (spaced ns) (map decimal ns) (graphic_decimal n s.0) (pieces_spaced ns s.1))
+pieces_spaced (n ∷ ns) s = ap (λ (l : List (List ℕ)). [] ∷ l) (word_first (decimal n) (spaced ns) (map decimal ns) (dense_graphic (decimal n) (graphic_decimal n s.0)) (pieces_spaced ns s.1))
 
 filled_decimals : (ns : List ℕ) → Small ns → filled (map decimal ns) ≡ map decimal ns
 filled_decimals [] s = refl
@@ -101,7 +93,7 @@ seen_name Collect w = (refl, omega arith, tt)
 text_tokens : (m ns : List ℕ) → graphic m ≡ true → 0 < length m → Small ns → tokens (body (m ++ spaced ns)) ≡ m ∷ map decimal ns
 text_tokens m ns g l s =
     ap tokens (body_plain (m ++ spaced ns) (plain_append m (spaced ns) (plain_graphic m g) (plain_spaced ns s)))
-    ∙ ap filled (word_first m (spaced ns) (map decimal ns) g (pieces_spaced ns s))
+    ∙ ap filled (word_first m (spaced ns) (map decimal ns) (dense_graphic m g) (pieces_spaced ns s))
     ∙ filled_some m (map decimal ns) l ∙ ap (λ (t : List (List ℕ)). m ∷ t) (filled_decimals ns s)
 
 pub reads_back : ReadsBack

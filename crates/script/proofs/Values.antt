@@ -1,40 +1,41 @@
--- What digits come to, one digit after the other.
-use Rattle.std.proofs.Common.{◌≡◌, ℕ, ◌+◌, ◌-◌, ◌*◌, ◌^◌, ◌<◌, ◌≤◌, Bool, true, cond, ◌&&◌, ltb, leb, List, [], ◌∷◌, length, get_or, drop, Some, None, Option, sym, refl, ap, ◌∙◌, arith}
+-- What digits come to, as the standard parse says it, and that no token is empty.
+use Rattle.std.proofs.Common.{◌≡◌, ℕ, ◌^◌, ◌<◌, Bool, true, false, leb, List, [], ◌∷◌, length, None, Option, Ok, Err, Result, sym, refl, ap, ◌&&◌, MatchOption, arith, rules}
+use Rattle.std.specs.Option.{ok_or}
+use Rattle.std.specs.Bool.{then_some}
+use Rattle.std.specs.Result.{result_ok}
+use Rattle.std.specs.List.{list_all}
 use Rattle.std.specs.Char.{is_ascii_digit}
 use Rattle.std.specs.Str.{all_ascii_digits}
-use Rattle.std.proofs.lemmas.List.{at_drop_more, at_drop_all}
-use Rattle.std.proofs.lemmas.Bool.{and_parts, leb-true, le-ltb, lt-ltb}
-use Rattle.script.specs.Numbers.{value, value_after}
+use Rattle.std.specs.Str.Parse.{ParsesUnsigned}
+use Rattle.std.proofs.lemmas.Bool.{lt-leb}
+use Rattle.std.proofs.lemmas.Str.Parse.{IsNumeralModel, numerals_by_fold, parse_digits}
+use Rattle.script.specs.Tokens.{filled}
+use Rattle.script.specs.Numbers.{value, value_after, number}
+use Rattle.script.specs.declared.error.LineError.{LineError}
 
--- the test at byte i
-pub digits_at : (ds : List ℕ) (i : ℕ) (t : Bool) → i < length ds → t ≡ is_ascii_digit (get_or ds i 0) → all_ascii_digits (drop i ds) ≡ (t && all_ascii_digits (drop (i + 1) ds))
-digits_at ds i t h e = at_drop_more all_ascii_digits ds i 0 h ∙ ap (λ (u : Bool). u && all_ascii_digits (drop (i + 1) ds)) (sym e)
+pub own : IsNumeralModel (λ ds. all_ascii_digits ds ≡ true) (value_after 0)
+own = numerals_by_fold _ (search rules) value_after (search rules)
 
-pub digits_end : (ds : List ℕ) (i : ℕ) → length ds ≤ i → all_ascii_digits (drop i ds) ≡ true
-digits_end ds i h = at_drop_all all_ascii_digits ds i h
+pub first_filled : (ps : List (List ℕ)) (t : List ℕ) (ts : List (List ℕ)) → filled ps ≡ t ∷ ts → 0 < length t
+first_filled [] t ts e = absurd (omega (arith, ap length e))
+first_filled ([] ∷ ps) t ts e = first_filled ps t ts e
+first_filled ((c ∷ p) ∷ ps) t ts e = let k : c ∷ p ≡ t = cc in omega (arith, ap length k)
 
-digit_parts : (ds : List ℕ) (i : ℕ) → i < length ds → all_ascii_digits (drop i ds) ≡ true → (is_ascii_digit (get_or ds i 0) ≡ true) × (all_ascii_digits (drop (i + 1) ds) ≡ true)
-digit_parts ds i h k = and_parts _ _ (sym (at_drop_more all_ascii_digits ds i 0 h) ∙ k)
+pub all_digits : (ds : List ℕ) → list_all is_ascii_digit ds ≡ all_ascii_digits ds
+all_digits [] = refl
+all_digits (c ∷ cs) = ap (λ (t : Bool). is_ascii_digit c && t) (all_digits cs)
 
-pub digits_on : (ds : List ℕ) (i : ℕ) → i < length ds → all_ascii_digits (drop i ds) ≡ true → all_ascii_digits (drop (i + 1) ds) ≡ true
-digits_on ds i h k = (digit_parts ds i h k).1
+value_at : (m n : ℕ) (e : LineError) (t : List ℕ) (s : Bool) → all_ascii_digits t ≡ true → value t ≡ n → leb n m ≡ s → ok_or (then_some s n) e ≡ number m e t
+value_at m n e t true d v l = rw (d, v, l)
+value_at m n e t false d v l = rw (d, v, l)
 
-pub digit_least : (ds : List ℕ) (i : ℕ) → i < length ds → all_ascii_digits (drop i ds) ≡ true → 48 ≤ get_or ds i 0
-digit_least ds i h k = leb-true 48 (get_or ds i 0) (and_parts (leb 48 (get_or ds i 0)) (leb (get_or ds i 0) 57) (digit_parts ds i h k).0).0
-
--- more digits never make a number smaller
-value_grows : (n : ℕ) (ds : List ℕ) → n ≤ value_after n ds
-value_grows n [] = omega arith
-value_grows n (c ∷ cs) = omega (arith, value_grows (10 * n + (c - 48)) cs)
-
-pub value_on : (ds : List ℕ) (i n m : ℕ) → i < length ds → value ds ≡ value_after n (drop i ds) → m ≡ 10 * n + (get_or ds i 0 - 48) → value ds ≡ value_after m (drop (i + 1) ds)
-value_on ds i n m h v e = v ∙ at_drop_more (value_after n) ds i 0 h ∙ ap (λ (k : ℕ). value_after k (drop (i + 1) ds)) (sym e)
-
-pub value_end : (ds : List ℕ) (i n : ℕ) → length ds ≤ i → value ds ≡ value_after n (drop i ds) → n < 2 ^ 64 → Some n ≡ cond (ltb (value ds) (2 ^ 64)) (Some (value ds)) None
-value_end ds i n h v l = let e : value ds ≡ n = v ∙ at_drop_all (value_after n) ds i h in let t = lt-ltb (value ds) (2 ^ 64) (omega arith) in rw t (ap Some (sym e))
-
-pub value_large : (ds : List ℕ) (i n : ℕ) (r : Option ℕ) → i < length ds → value ds ≡ value_after n (drop i ds) → 2 ^ 64 ≤ 10 * n + (get_or ds i 0 - 48) → r ≡ None → r ≡ cond (ltb (value ds) (2 ^ 64)) (Some (value ds)) None
-value_large ds i n r h v l e =
-    let k : value ds ≡ value_after (10 * n + (get_or ds i 0 - 48)) (drop (i + 1) ds) = value_on ds i n _ h v refl in
-    let t = le-ltb (value ds) (2 ^ 64) (omega (arith, value_grows (10 * n + (get_or ds i 0 - 48)) (drop (i + 1) ds))) in
-    rw t e
+-- what the parse gives, kept if it is at most m, is the number that the token writes
+pub parsed : {E : Type 0} (m : ℕ) (e : LineError) (t : List ℕ) (r : Result ℕ E) (o : Option ℕ) (Q : ℕ → Bool → Type 0) → ParsesUnsigned 64 10 t r → all_ascii_digits t ≡ true → 0 < length t → m < 2 ^ 64 → MatchOption (result_ok r) (o ≡ None) (λ n. (b : Bool) × Q n b × (o ≡ then_some b n)) → ((n : ℕ) (b : Bool) → Q n b → b ≡ leb n m) → ok_or o e ≡ number m e t
+parsed {E} m e t (Ok n) o Q p d l s h q =
+    let k = parse_digits own {E = E} 64 t (Ok n) p d in
+    rw (h.2, q n h.0 h.1) (value_at m n e t _ d (sym k.1) refl)
+parsed {E} m e t (Err x) o Q p d l s h q =
+    let k = parse_digits own {E = E} 64 t (Err x) p d in
+    let w : value t < 2 ^ 64 → ⊥ = λ v. k (l, v) in
+    let v : m < value t = omega arith in
+    rw (h, d, lt-leb (value t) m v)

@@ -1,5 +1,5 @@
 -- How a line is read: its first token is the name of a call, the others are the numbers, read from the left.
-use Rattle.std.specs.Prelude.{ℕ, ◌-◌, ◌^◌, Bool, true, false, cond, ◌||◌, List, [], ◌∷◌, Ok, Err, codes, Result, ◌==◌, slice_index}
+use Rattle.std.specs.Prelude.{ℕ, zero, suc, ◌-◌, ◌^◌, Bool, true, false, cond, ◌||◌, List, [], ◌∷◌, Some, None, Option, Ok, Err, codes, Result, ◌==◌, slice_index}
 use Rattle.std.specs.Borrow.{Bor}
 use Rattle.std.specs.Str.{bytes_eq}
 use Rattle.world.specs.declared.Ask.{Ask}
@@ -7,8 +7,6 @@ use Rattle.world.specs.declared.Ask.TheVariants.{New, Get, Set, Read, Write, Cop
 use Rattle.script.specs.declared.error.LineError.{LineError}
 use Rattle.script.specs.declared.error.LineError.TheVariants.{UnknownCall, TooFewNumbers, TooManyNumbers, IndexTooLarge, ValueTooLarge, WordsTooLarge}
 use Rattle.script.specs.declared.read.HeapSize.{HeapSize}
-use Rattle.script.specs.declared.read.Line.{Line}
-use Rattle.script.specs.declared.read.Line.TheVariants.{Nothing, Call}
 use Rattle.script.specs.Tokens.{tokens}
 use Rattle.script.specs.Numbers.{number}
 
@@ -39,6 +37,11 @@ abbrev pub next : Limit → List (List ℕ) → Result (ℕ × List (List ℕ)) 
 next l [] = Err TooFewNumbers
 next l (t ∷ ts) = bind (number l.most l.over t) (λ n. Ok (n, ts))
 
+-- so many numbers, each a slot, a place, a word of an object or a size, and the other tokens
+abbrev pub indices : ℕ → List (List ℕ) → Result (List ℕ × List (List ℕ)) LineError
+indices zero ts = Ok ([], ts)
+indices (suc n) ts = bind (next index ts) (λ p. bind (indices n p.1) (λ q. Ok (p.0 ∷ q.0, q.1)))
+
 abbrev pub ended : {A : Type 0} → A → List (List ℕ) → Result A LineError
 ended x [] = Ok x
 ended x (t ∷ ts) = Err TooManyNumbers
@@ -52,8 +55,8 @@ abbrev pub reads : {A : Type 0} → (ls : List Limit) → Takes ls A → List (L
 reads [] x ts = ended x ts
 reads (l ∷ ls) f ts = bind (next l ts) (λ p. reads ls (f p.0) p.1)
 
--- a function's result that has what is left of the line beside the number, with the tokens of that
-abbrev pub seen : Result (ℕ × Bor (List ℕ)) LineError → Result (ℕ × List (List ℕ)) LineError
+-- a function's result that has what is left of the line beside what was read, with the tokens of that
+abbrev pub seen : {A : Type 0} → Result (A × Bor (List ℕ)) LineError → Result (A × List (List ℕ)) LineError
 seen r = bind r (λ p. Ok (p.0, tokens p.1.now))
 
 -- the call with this name, of the numbers in these tokens
@@ -102,5 +105,6 @@ none_of (t ∷ ts) = false
 abbrev pub passed_over : List ℕ → Bool
 passed_over line = slice_index line 0 == 35 || none_of (tokens (body line))
 
-abbrev pub line_of : List ℕ → Result Line LineError
-line_of line = cond (passed_over line) (Ok Nothing) (bind (call_of line) (λ q. Ok (Call q)))
+-- a line after the first: a call, or none if it is passed over
+abbrev pub line_of : List ℕ → Result (Option Ask) LineError
+line_of line = cond (passed_over line) (Ok None) (bind (call_of line) (λ q. Ok (Some q)))

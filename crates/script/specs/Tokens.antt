@@ -1,6 +1,5 @@
 -- The tokens of a line: its longest runs without a space or a tab.
-use Rattle.std.specs.Prelude.{ℕ, suc, Bool, cond, ◌||◌, List, [], ◌∷◌, ◌==◌}
-use Rattle.std.specs.Bool.{beq}
+use Rattle.std.specs.Prelude.{ℕ, Bool, cond, ◌||◌, List, [], ◌∷◌, ◌==◌}
 
 abbrev pub blank : ℕ → Bool
 blank c = c == 32 || c == 9
@@ -21,8 +20,3 @@ filled ((c ∷ p) ∷ ps) = (c ∷ p) ∷ filled ps
 
 abbrev pub tokens : List ℕ → List (List ℕ)
 tokens line = filled (pieces line)
-
--- how many bytes at the front are blanks, or are none
-abbrev pub run : Bool → List ℕ → ℕ
-run b [] = 0
-run b (c ∷ cs) = cond (beq (blank c) b) (suc (run b cs)) 0

@@ -36,6 +36,7 @@ impl LineError {
     }
 }
 
+// Written by hand: what thiserror derives promises nothing of the text.
 impl fmt::Display for LineError {
     ghost output = { λ e. Some (error_text e) };
 

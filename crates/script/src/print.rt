@@ -5,7 +5,7 @@ ghost use Rattle.script.specs.Text.{call_text, answer_text};
 use std::fmt;
 use world::{Ask, Told};
 
-// A call as its line is printed.
+// A call as its line is printed. `Ask` and `Told` are of another crate, which may not take impls from here.
 #[derive(Clone, Copy)]
 pub struct CallText(pub Ask);
 

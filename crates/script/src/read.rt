@@ -4,19 +4,9 @@ ghost use Rattle.script.specs.Tokens.{tokens};
 ghost use Rattle.script.specs.Reading.{body as body_of, called, call_of, heap_size_of, passed_over, line_of};
 
 use crate::error::LineError;
-use crate::reader::{
-    ended, next_index, next_number, one_index, three_indices, two_indices, two_indices_and_value,
-};
+use crate::reader::{ended, indices, next_number, one_index};
 use crate::tokens::split_token;
 use world::Ask;
-
-// A line of a script, after the first.
-#[derive(Clone, Copy)]
-pub enum Line {
-    // blank, or a comment
-    Nothing,
-    Call(Ask),
-}
 
 // What the first line of a script says.
 #[derive(Clone, Copy)]
@@ -29,10 +19,7 @@ pub struct HeapSize {
 fn body(line: &str) -> &str
     ensures { result.now ≡ body_of line.now }
 {
-    match line.strip_suffix('\r') {
-        Some(front) => front,
-        None => line,
-    }
+    line.strip_suffix('\r').unwrap_or(line)
 }
 
 // The call with this name, of the numbers in the rest of its line.
@@ -41,33 +28,34 @@ fn named_call(name: &str, rest: &str) -> Result<Ask, LineError>
 {
     match name {
         "New" => {
-            let (slot, places, words) = three_indices(rest)?;
-            Ok(Ask::New(slot, places, words))
+            let ([slot, places, words], rest) = indices::<3>(rest)?;
+            ended(rest, Ask::New(slot, places, words))
         }
         "Get" => {
-            let (to, slot, place) = three_indices(rest)?;
-            Ok(Ask::Get(to, slot, place))
+            let ([to, slot, place], rest) = indices::<3>(rest)?;
+            ended(rest, Ask::Get(to, slot, place))
         }
         "Set" => {
-            let (slot, place, from) = three_indices(rest)?;
-            Ok(Ask::Set(slot, place, from))
+            let ([slot, place, from], rest) = indices::<3>(rest)?;
+            ended(rest, Ask::Set(slot, place, from))
         }
         "Read" => {
-            let (slot, word) = two_indices(rest)?;
-            Ok(Ask::Read(slot, word))
+            let ([slot, word], rest) = indices::<2>(rest)?;
+            ended(rest, Ask::Read(slot, word))
         }
         "Write" => {
-            let (slot, word, value) = two_indices_and_value(rest)?;
-            Ok(Ask::Write(slot, word, value))
+            let ([slot, word], rest) = indices::<2>(rest)?;
+            let (value, rest) = next_number(rest, u64::MAX, LineError::ValueTooLarge)?;
+            ended(rest, Ask::Write(slot, word, value))
         }
         "Copy" => {
-            let (to, from) = two_indices(rest)?;
-            Ok(Ask::Copy(to, from))
+            let ([to, from], rest) = indices::<2>(rest)?;
+            ended(rest, Ask::Copy(to, from))
         }
         "Clear" => Ok(Ask::Clear(one_index(rest)?)),
         "Same" => {
-            let (slot, other) = two_indices(rest)?;
-            Ok(Ask::Same(slot, other))
+            let ([slot, other], rest) = indices::<2>(rest)?;
+            ended(rest, Ask::Same(slot, other))
         }
         "Sizes" => Ok(Ask::Sizes(one_index(rest)?)),
         "Collect" => ended(rest, Ask::Collect),
@@ -75,7 +63,7 @@ fn named_call(name: &str, rest: &str) -> Result<Ask, LineError>
     }
 }
 
-// Reads a call, as `Write 0 3 18446744073709551615`.
+// Reads a call, as `Write 0 3 18446744073709551615`. `Ask` is of another crate, which may not take a FromStr from here.
 pub fn read_call(line: &str) -> Result<Ask, LineError>
     ensures { result ≡ call_of line.now }
 {
@@ -90,7 +78,7 @@ pub fn read_heap_size(line: &str) -> Result<HeapSize, LineError>
     ensures { result ≡ heap_size_of line.now }
 {
     let (words, line) = next_number(body(line), 0xff_ffff_ffff_ffff, LineError::WordsTooLarge)?;
-    let (slots, line) = next_index(line)?;
+    let ([slots], line) = indices::<1>(line)?;
     ended(line, HeapSize { words, slots })
 }
 
@@ -101,13 +89,13 @@ pub fn is_passed_over(line: &str) -> bool
     line.starts_with('#') || split_token(body(line)).is_none()
 }
 
-// Reads a line after the first.
-pub fn read_line(line: &str) -> Result<Line, LineError>
+// Reads a line after the first. There is no call where it is blank or a comment.
+pub fn read_line(line: &str) -> Result<Option<Ask>, LineError>
     ensures { result ≡ line_of line.now }
 {
     if is_passed_over(line) {
-        return Ok(Line::Nothing);
+        return Ok(None);
     }
     let call = read_call(line)?;
-    Ok(Line::Call(call))
+    Ok(Some(call))
 }

@@ -1,34 +1,16 @@
 // A line's tokens, one after the other: its longest runs without a space or a tab.
 ghost use Rattle.std.specs.Prelude.{◌≡◌, [], ◌∷◌, MatchOption};
-ghost use Rattle.script.specs.Tokens.{blank as blank_byte, tokens, run};
+ghost use Rattle.script.specs.Tokens.{tokens};
 
-fn is_blank(byte: u8) -> bool
-    ensures { result ≡ blank_byte byte }
-{
-    byte == b' ' || byte == b'\t'
-}
-
-// How many bytes at the front are blanks, or are none.
-fn run_len(line: &[u8], blank: bool) -> usize
-    ensures { result ≡ run blank line.now }
-{
-    for (i, byte) in line.iter().enumerate() {
-        if is_blank(*byte) != blank {
-            return i;
-        }
-    }
-    line.len()
-}
+const BLANKS: [char; 2] = [' ', '\t'];
 
 // The first token and what follows it, unless the line is blank.
 pub fn split_token(line: &str) -> Option<(&str, &str)>
     ensures { MatchOption result (tokens line.now ≡ []) (λ p. tokens line.now ≡ p.0.now ∷ tokens p.1.now) }
 {
-    let (_, line) = line.split_at(run_len(line.as_bytes(), true));
-    let (token, rest) = line.split_at(run_len(line.as_bytes(), false));
-    if token.is_empty() {
-        None
-    } else {
-        Some((token, rest))
+    let line = line.trim_start_matches(BLANKS);
+    if line.is_empty() {
+        return None;
     }
+    Some(line.split_once(BLANKS).unwrap_or((line, "")))
 }

@@ -1,13 +1,12 @@
--- The byte at the index ends the test or is one more digit.
-use Rattle.std.proofs.Common.{sym, ◌∙◌, arith}
-use Rattle.script.proofs.Values.{digits_at, digits_end}
+-- Each byte is tested.
+use Rattle.std.proofs.Common.{◌∙◌, rules, tests}
+use Rattle.std.specs.Char.{is_ascii_digit}
+use Rattle.std.proofs.lemmas.Iterator.{YieldsList-from_slice}
+use Rattle.std.proofs.lemmas.Iterator.Search.{all_from_yields_List}
+use Rattle.script.proofs.Values.{all_digits}
 use Rattle.script.proofs.numbers.all_digits.Goals as goal
 
-pub returns-then-not-is_ascii_digit : goal.returns-then-not-is_ascii_digit
-returns-then-not-is_ascii_digit c = sym (c.loop-byte.invariant ∙ digits_at c.args.token.now c.loop-byte.byte-index _ (omega arith) c.if-not-is_ascii_digit.ensures.value)
-
-pub loop-byte-preserved : goal.loop-byte-preserved
-loop-byte-preserved c = c.loop-byte.invariant ∙ digits_at c.args.token.now c.loop-byte.byte-index _ (omega arith) c.if-not-is_ascii_digit.ensures.value
-
 pub returns : goal.returns
-returns c = sym (c.loop-byte.invariant ∙ digits_end c.args.token.now c.loop-byte.byte-index (omega arith))
+returns c =
+    all_from_yields_List is_ascii_digit _ _ c.all.result c.all.ensures.ran (YieldsList-from_slice c.args.token.now cc) (λ x b q k. search (rules, tests))
+    ∙ all_digits c.args.token.now

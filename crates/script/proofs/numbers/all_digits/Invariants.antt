@@ -1,7 +1,0 @@
--- The bytes before the index are digits.
-use Rattle.std.proofs.Common.{◌≡◌, drop}
-use Rattle.std.specs.Str.{all_ascii_digits}
-use Rattle.script.proofs.numbers.all_digits.Given as goal
-
-abbrev pub invariant-loop-byte : goal.invariant-loop-byte
-invariant-loop-byte l = all_ascii_digits l.token ≡ all_ascii_digits (drop l.byte-index l.token)
