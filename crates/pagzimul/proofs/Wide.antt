@@ -3,7 +3,8 @@ use Rattle.std.proofs.Common.{◌≡◌, ℕ, zero, suc, ◌+◌, ◌*◌, ◌<�
 use mathlib.Core.Option.{Option, some, none}
 use lib.ListN.{length-map}
 use Rattle.std.proofs.lemmas.Bool.{cases_lt}
-use Rattle.world.specs.declared.Ask.TheVariants.{New, Get, Set, Read, Write, Copy, Clear, Same, Sizes}
+use Rattle.world.specs.declared.Ask.{Ask}
+use Rattle.world.specs.declared.Ask.TheVariants.{New, Get, Set, Read, Write, Copy, Clear, Same, Sizes, Collect}
 use Rattle.world.specs.Base.{nth, opt, bit}
 use Rattle.world.specs.World.{Obj, World, obj_at, with_slot, with_obj, with_place, with_word}
 use Rattle.world.specs.Script.{Outcome, outcome, slot, holds, place, allocated, answer}
@@ -72,44 +73,42 @@ place_last w a i f r = found_same (obj_at w a) (outcome 3 0 w) _ _ (λ o e. at_l
 word_last : (w : World) (a i : ℕ) (f : Obj → ℕ → ℕ → Outcome) → Narrow w → holds w a (λ o. place w o.words (min i 65535) (f o (min i 65535))) ≡ holds w a (λ o. place w o.words i (f o i))
 word_last w a i f r = found_same (obj_at w a) (outcome 3 0 w) _ _ (λ o e. at_last o.words i (outcome 4 0 w) (f o) (r.objects a o e).1)
 
--- each call
-pub wide_new : (room : ℕ) (w : World) (s r n : ℕ) → Narrow w → answer room w (New (min s 65535) r n) ≡ answer room w (New s r n)
-wide_new room w s r n d = slot_last w s (λ k old. allocated room w k r n) d
+-- a call with numbers of slots, places and words that have 16 bits
+abbrev pub capped : Ask → Ask
+capped (New s r n) = New (min s 65535) r n
+capped (Get t s i) = Get (min t 65535) (min s 65535) (min i 65535)
+capped (Set s i t) = Set (min s 65535) (min i 65535) (min t 65535)
+capped (Read s i) = Read (min s 65535) (min i 65535)
+capped (Write s i x) = Write (min s 65535) (min i 65535) x
+capped (Copy t s) = Copy (min t 65535) (min s 65535)
+capped (Clear t) = Clear (min t 65535)
+capped (Same s t) = Same (min s 65535) (min t 65535)
+capped (Sizes s) = Sizes (min s 65535)
+capped Collect = Collect
 
-pub wide_get : (room : ℕ) (w : World) (t s i : ℕ) → Narrow w → answer room w (Get (min t 65535) (min s 65535) (min i 65535)) ≡ answer room w (Get t s i)
-wide_get room w t s i d =
+-- each call
+pub answers_capped : (room : ℕ) (w : World) (q : Ask) → Narrow w → answer room w (capped q) ≡ answer room w q
+answers_capped room w (New s r n) d = slot_last w s (λ k old. allocated room w k r n) d
+answers_capped room w (Get t s i) d =
     slot_last w t (λ k old. slot w (min s 65535) (λ a. holds w a (λ o. place w o.refs (min i 65535) (λ b. outcome 1 0 (with_slot w k b))))) d
     ∙ then_same w t _ _ (λ old. slot_last w s (λ k a. holds w a (λ o. place w o.refs (min i 65535) (λ b. outcome 1 0 (with_slot w t b)))) d)
     ∙ then_same w t _ _ (λ old. then_same w s _ _ (λ a. place_last w a i (λ o k b. outcome 1 0 (with_slot w t b)) d))
-
-pub wide_set : (room : ℕ) (w : World) (s i t : ℕ) → Narrow w → answer room w (Set (min s 65535) (min i 65535) (min t 65535)) ≡ answer room w (Set s i t)
-wide_set room w s i t d =
+answers_capped room w (Set s i t) d =
     slot_last w s (λ k a. slot w (min t 65535) (λ b. holds w a (λ o. place w o.refs (min i 65535) (λ old. outcome 1 0 (with_obj w a (with_place o (min i 65535) b)))))) d
     ∙ then_same w s _ _ (λ a. slot_last w t (λ k b. holds w a (λ o. place w o.refs (min i 65535) (λ old. outcome 1 0 (with_obj w a (with_place o (min i 65535) b))))) d)
     ∙ then_same w s _ _ (λ a. then_same w t _ _ (λ b. place_last w a i (λ o k old. outcome 1 0 (with_obj w a (with_place o k b))) d))
-
-pub wide_read : (room : ℕ) (w : World) (s i : ℕ) → Narrow w → answer room w (Read (min s 65535) (min i 65535)) ≡ answer room w (Read s i)
-wide_read room w s i d =
+answers_capped room w (Read s i) d =
     slot_last w s (λ k a. holds w a (λ o. place w o.words (min i 65535) (λ x. outcome 1 x w))) d
     ∙ then_same w s _ _ (λ a. word_last w a i (λ o k x. outcome 1 x w) d)
-
-pub wide_write : (room : ℕ) (w : World) (s i x : ℕ) → Narrow w → answer room w (Write (min s 65535) (min i 65535) x) ≡ answer room w (Write s i x)
-wide_write room w s i x d =
+answers_capped room w (Write s i x) d =
     slot_last w s (λ k a. holds w a (λ o. place w o.words (min i 65535) (λ old. outcome 1 0 (with_obj w a (with_word o (min i 65535) x))))) d
     ∙ then_same w s _ _ (λ a. word_last w a i (λ o k old. outcome 1 0 (with_obj w a (with_word o k x))) d)
-
-pub wide_copy : (room : ℕ) (w : World) (t s : ℕ) → Narrow w → answer room w (Copy (min t 65535) (min s 65535)) ≡ answer room w (Copy t s)
-wide_copy room w t s d =
+answers_capped room w (Copy t s) d =
     slot_last w t (λ k old. slot w (min s 65535) (λ a. outcome 1 0 (with_slot w k a))) d
     ∙ then_same w t _ _ (λ old. slot_last w s (λ k a. outcome 1 0 (with_slot w t a)) d)
-
-pub wide_clear : (room : ℕ) (w : World) (t : ℕ) → Narrow w → answer room w (Clear (min t 65535)) ≡ answer room w (Clear t)
-wide_clear room w t d = slot_last w t (λ k old. outcome 1 0 (with_slot w k 0)) d
-
-pub wide_same : (room : ℕ) (w : World) (s t : ℕ) → Narrow w → answer room w (Same (min s 65535) (min t 65535)) ≡ answer room w (Same s t)
-wide_same room w s t d =
+answers_capped room w (Clear t) d = slot_last w t (λ k old. outcome 1 0 (with_slot w k 0)) d
+answers_capped room w (Same s t) d =
     slot_last w s (λ k a. slot w (min t 65535) (λ b. outcome 1 (bit (eqb a b)) w)) d
     ∙ then_same w s _ _ (λ a. slot_last w t (λ k b. outcome 1 (bit (eqb a b)) w) d)
-
-pub wide_sizes : (room : ℕ) (w : World) (s : ℕ) → Narrow w → answer room w (Sizes (min s 65535)) ≡ answer room w (Sizes s)
-wide_sizes room w s d = slot_last w s (λ k a. holds w a (λ o. outcome 1 (65536 * length o.refs + length o.words) w)) d
+answers_capped room w (Sizes s) d = slot_last w s (λ k a. holds w a (λ o. outcome 1 (65536 * length o.refs + length o.words) w)) d
+answers_capped room w Collect d = refl

@@ -1,13 +1,12 @@
 // Whether words can be a heap, are one, and how they become one. Nothing is asked of the words or the numbers.
 ghost use Rattle.std.specs.Prelude.{◌≡◌, ℕ, ◌+◌, ◌<◌, ◌≤◌, true, false, ◌&&◌, length, nat_le};
+ghost use Rattle.std.specs.Fn.{FnOnceReturnsAtMut, FnOnceTakesAtMut};
 ghost use Rattle.world.specs.World.{blank};
 ghost use Rattle.layout.specs.Cells.{world_of};
 ghost use Rattle.layout.specs.Sound.{sound};
-ghost use Rattle.store.specs.Ready.{Ready};
-ghost use Rattle.pagzimul.specs.Lent.{startable, Usable};
+ghost use Rattle.pagzimul.specs.Lent.{managed, startable, Usable};
 
 use soundness::is_sound;
-use std::mem;
 use store::{Manager, start};
 use words::lent::Lent;
 
@@ -25,29 +24,27 @@ pub extern "C" fn pagzimul_fits(words: &[u64], slots: u64) -> bool
     slots < 65536 && words.len() < ADDRESSES && 64 + slots as usize <= words.len()
 }
 
-// A lent slice, taken by value: a manager has it in the meantime, and hands it back.
-pub fn taken<'a>(lent: &mut Lent<'a>) -> Lent<'a>
-    ensures { result ≡ lent.old }
+// Does a piece of work on a manager over lent words, and hands back the words with what it gave: by value, since the prover
+// does not follow a `&mut` that is lent to a struct within a struct.
+pub fn with_manager<'a, R, F: FnOnce(&mut Manager<Lent<'a>>) -> R>(
+    words: &'a mut [u64],
+    slots: u64,
+    work: F,
+) -> (R, &'a mut [u64])
+    requires few { slots < 65536 }
+    requires takes { FnOnceTakesAtMut F.FnOnce work (managed words slots) }
+    requires keeps { (r : _) (m : _) → FnOnceReturnsAtMut F.FnOnce work (managed words slots) r m → m.words.words.ghost_name ≡ words.ghost_name }
+    ensures does { (m : _) × FnOnceReturnsAtMut F.FnOnce work (managed words.entry slots) result.0 m × (m.words.words.now ≡ result.1.now) }
+    ensures lender { result.1.ghost_name ≡ words.entry.ghost_name }
 {
-    let none = Lent {
-        words: &mut [],
-        count: 0,
+    let mut m = Manager {
+        words: Lent { words, count: 0 },
+        // what is asked of the caller
+        slots: slots as u16,
     };
-    mem::replace(lent, none)
-}
-
-// Starts on a lent slice.
-fn start_lent(lent: &mut Lent<'_>, slots: u16)
-    requires { (startable (length lent.old.words.now) slots ≡ true) × (lent.old.count ≡ 0) }
-    ensures ready { Ready slots lent.new.words.now 0 }
-    ensures empty { world_of slots lent.new.words.now ≡ blank slots }
-    ensures long { length lent.new.words.now ≡ length lent.old.words.now }
-    ensures lender { lent.new.words.ghost_name ≡ lent.old.words.ghost_name }
-{
-    let words = taken(lent);
-    let mut m = Manager { words, slots };
-    start(&mut m);
-    *lent = m.words;
+    let done = work(&mut m);
+    let Lent { words: back, .. } = m.words;
+    (done, back)
 }
 
 // Makes an empty heap of words, whatever stands in them; where they do not fit, it writes nothing and says so.
@@ -62,24 +59,8 @@ pub extern "C" fn pagzimul_start(words: &mut [u64], slots: u64) -> bool
     if !pagzimul_fits(words, slots) {
         return false;
     }
-    let mut lent = Lent { words, count: 0 };
-    start_lent(&mut lent, slots as u16);
+    with_manager(words, slots, |m| start(m));
     true
-}
-
-// Looks through a lent slice.
-fn check_lent(lent: &mut Lent<'_>, slots: u16) -> bool
-    requires fits { (startable (length lent.old.words.now) slots ≡ true) × (lent.old.count ≡ 0) }
-    requires few { length lent.old.words.now ≤ 3000000000 }
-    ensures value { result ≡ sound slots lent.old.words.now }
-    ensures same { lent.new.words.now ≡ lent.old.words.now }
-    ensures lender { lent.new.words.ghost_name ≡ lent.old.words.ghost_name }
-{
-    let words = taken(lent);
-    let mut m = Manager { words, slots };
-    let sound = is_sound(&mut m);
-    *lent = m.words;
-    sound
 }
 
 // Do the words hold a sound heap with so many slots? They stay as they are.
@@ -92,6 +73,5 @@ pub extern "C" fn pagzimul_is_sound(words: &mut [u64], slots: u64) -> bool
     if words.len() > CHECKED || !pagzimul_fits(words, slots) {
         return false;
     }
-    let mut lent = Lent { words, count: 0 };
-    check_lent(&mut lent, slots as u16)
+    with_manager(words, slots, |m| is_sound(m)).0
 }

@@ -1,9 +1,7 @@
 -- Numbers that are too large are answered as the last of 16 bits.
-use Rattle.std.proofs.Common.{min}
-use Rattle.world.specs.declared.Ask.TheVariants.{Set}
-use Rattle.pagzimul.proofs.Wide.{wide_set}
-use Rattle.pagzimul.proofs.Answered.{calls_as}
+use Rattle.std.proofs.Common.{rules}
+use Rattle.pagzimul.proofs.Answered.{acts_wide}
 use Rattle.pagzimul.proofs.calling.pagzimul_set.Goals as goal
 
 pub returns : goal.returns
-returns c = calls_as (Set c.index.result c.index-2.result c.index-3.result) (Set (min c.args.s 65535) (min c.args.i 65535) (min c.args.t 65535)) (Set c.args.s c.args.i c.args.t) _ _ _ _ c.requires (cc) (λ n d. wide_set n _ _ _ _ d) c.run_on.ensures
+returns c = acts_wide _ _ _ _ _ c.requires (search rules)
