@@ -1,3 +1,2 @@
 -- Proofs on what the programs that measure and compare share.
-mod Bounds
 mod Sorting

@@ -5,7 +5,7 @@ ghost use Rattle.bench.specs.Kinds.{kind_of, number_of};
 use std::fmt;
 use world::Ask;
 
-#[derive(Clone, Copy)]
+#[derive(Clone, Copy, PartialEq, Eq, Debug)]
 pub enum Kind {
     New,
     Get,
@@ -33,10 +33,12 @@ impl Kind {
         Kind::Sizes,
         Kind::Collect,
     ];
+}
 
-    pub fn of(ask: &Ask) -> Kind
-        ensures { result ≡ kind_of ask.now }
-    {
+impl From<&Ask> for Kind {
+    ghost from_gives = { λ ask kind. kind ≡ kind_of ask.now };
+
+    fn from(ask: &Ask) -> Kind {
         match *ask {
             Ask::New(_, _, _) => Kind::New,
             Ask::Get(_, _, _) => Kind::Get,
@@ -50,29 +52,19 @@ impl Kind {
             Ask::Collect => Kind::Collect,
         }
     }
+}
 
-    // Its place among the ten.
-    pub fn number(self) -> usize
-        ensures { result ≡ number_of self }
-    {
-        self as usize
+// Its place among the ten.
+impl From<Kind> for usize {
+    ghost from_gives = { λ kind place. place ≡ number_of kind };
+
+    fn from(kind: Kind) -> usize {
+        kind as usize
     }
 }
 
 impl fmt::Display for Kind {
     fn fmt<W: fmt::Write>(&self, f: &mut fmt::Formatter<W>) -> fmt::Result {
-        let name = match self {
-            Kind::New => "New",
-            Kind::Get => "Get",
-            Kind::Set => "Set",
-            Kind::Read => "Read",
-            Kind::Write => "Write",
-            Kind::Copy => "Copy",
-            Kind::Clear => "Clear",
-            Kind::Same => "Same",
-            Kind::Sizes => "Sizes",
-            Kind::Collect => "Collect",
-        };
-        write!(f, "{name}")
+        write!(f, "{self:?}")
     }
 }

@@ -8,7 +8,6 @@ mod tally;
 mod touching;
 
 pub use kind::Kind;
-pub use playing::answer_script;
+pub use playing::Game;
 pub use random::Random;
 pub use tally::Tally;
-pub use touching::touch_script;

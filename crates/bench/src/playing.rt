@@ -1,4 +1,4 @@
-// A whole script on the manager, over words of the program's own.
+// A script that is played on the manager, over words of the program's own.
 ghost use Rattle.std.specs.Prelude.{◌≡◌, ◌<◌, map, IfOk};
 ghost use Rattle.world.specs.World.{blank};
 ghost use Rattle.world.specs.Script.{answers};
@@ -14,20 +14,30 @@ pub const RUBBISH: u64 = 0xaaaa_aaaa_aaaa_aaaa;
 // Addresses have 56 bits.
 pub const WORDS: u64 = 0x100_0000_0000_0000;
 
-// The answers to a whole script on so many words.
-pub fn answer_script(
-    heap: Global,
-    words: u64,
-    slots: u16,
-    calls: &[Ask],
-) -> Result<Vec<Told>, AllocError>
-    ensures { IfOk result (λ told. map answer_of told.items ≡ answers (room words slots) (blank slots) calls.now) }
-{
-    if words >= WORDS {
-        return Err(AllocError);
+// A script, and how many words and slots it is played on.
+#[derive(Clone, Copy)]
+pub struct Game<'a> {
+    pub words: u64,
+    pub slots: u16,
+    pub calls: &'a [Ask],
+}
+
+impl Game<'_> {
+    // What the calls are answered.
+    pub fn answers(&self, heap: Global) -> Result<Vec<Told>, AllocError>
+        ensures { IfOk result (λ told. map answer_of told.items ≡ answers (room self.now.words self.now.slots) (blank self.now.slots) self.now.calls.now) }
+    {
+        if self.words >= WORDS {
+            return Err(AllocError);
+        }
+        let mut words = vec![in heap; RUBBISH; self.words as usize]?;
+        let mut told = vec![in heap; Told { code: 0, val: 0 }; self.calls.len()]?;
+        heap::play(
+            self.calls,
+            words.as_mut_slice(),
+            self.slots,
+            told.as_mut_slice(),
+        );
+        Ok(told)
     }
-    let mut words = vec![in heap; RUBBISH; words as usize]?;
-    let mut told = vec![in heap; Told { code: 0, val: 0 }; calls.len()]?;
-    heap::play(calls, words.as_mut_slice(), slots, told.as_mut_slice());
-    Ok(told)
 }

@@ -28,6 +28,7 @@ impl Random {
         ensures after { self.new.last ≡ next_of self.old.last }
     {
         let upper = self.word() >> 32;
+        // a remainder by a u16
         (upper % n.max(1) as u64) as u16
     }
 }

@@ -5,7 +5,7 @@ ghost use Rattle.bench.specs.Tallies.{none, and_one, of_kind};
 use crate::kind::Kind;
 use world::Ask;
 
-#[derive(Clone, Copy)]
+#[derive(Clone, Copy, Default)]
 pub struct Tally {
     pub calls: u64,
     pub total: u64,
@@ -13,44 +13,35 @@ pub struct Tally {
 }
 
 impl Tally {
-    // Of no call.
-    pub const NONE: Tally = Tally {
-        calls: 0,
-        total: 0,
-        worst: 0,
-    };
-
     // One call more, which touched so many words.
-    pub fn add(&mut self, touched: u64)
-        ensures { self.new ≡ and_one self.old touched }
+    pub fn add(self, touched: u64) -> Tally
+        ensures { result ≡ and_one self touched }
     {
-        self.calls = self.calls.saturating_add(1);
-        self.total = self.total.saturating_add(touched);
-        self.worst = self.worst.max(touched);
+        Tally {
+            calls: self.calls.saturating_add(1),
+            total: self.total.saturating_add(touched),
+            worst: self.worst.max(touched),
+        }
     }
 
     // Of calls that touched so many words each.
     pub fn of(touches: &[u64]) -> Tally
         ensures { result ≡ fold and_one none touches.now }
     {
-        let mut sum = Tally::NONE;
-        for touched in touches {
-            sum.add(*touched);
-        }
-        sum
+        touches
+            .iter()
+            .fold(Tally::default(), |tally, touched| tally.add(*touched))
     }
 
     // Of the calls of one kind, where touches has a number for each call.
     pub fn of_kind(kind: Kind, calls: &[Ask], touches: &[u64]) -> Tally
         ensures { result ≡ of_kind kind none calls.now touches.now }
     {
-        let mut tally = Tally::NONE;
-        for (ask, touched) in calls.iter().zip(touches) {
-            if Kind::of(ask).number() == kind.number() {
-                tally.add(*touched);
-            }
-        }
-        tally
+        calls
+            .iter()
+            .zip(touches)
+            .filter(|(ask, _)| Kind::from(*ask) == kind)
+            .fold(Tally::default(), |tally, (_, touched)| tally.add(*touched))
     }
 
     // The words touched in a call on average, in tenths or hundredths of a word or the like; 0 where there was no call.

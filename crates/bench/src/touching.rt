@@ -3,7 +3,7 @@ ghost use Rattle.std.specs.Prelude.{◌≡◌, ℕ, ◌+◌, ◌*◌, ◌<◌, �
 ghost use Rattle.store.specs.Ready.{Ready};
 ghost use Rattle.bench.specs.Touches.{Bounded};
 
-use crate::playing::{RUBBISH, WORDS};
+use crate::playing::{Game, RUBBISH, WORDS};
 use heap::call;
 use std::alloc::{AllocError, Global};
 use store::{Manager, fits, start};
@@ -17,6 +17,7 @@ fn touch_on(calls: &[Ask], m: &mut Manager<Lent<'_>>, out: &mut [u64])
     requires blank { Bounded (length m.old.words.words.now) out.old }
     ensures { Bounded (length m.old.words.words.now) out.new }
 {
+    // By index: of elements that iter_mut lent, nothing is known in the end.
     for (i, q) in calls.iter().enumerate() {
         m.words.count = 0;
         let _ = call(m, q);
@@ -41,20 +42,22 @@ fn touch_from_start(calls: &[Ask], words: &mut [u64], slots: u16, out: &mut [u64
     }
 }
 
-// The words touched in each call of a script on so many words; none where there are too few to start.
-pub fn touch_script(
-    heap: Global,
-    words: u64,
-    slots: u16,
-    calls: &[Ask],
-) -> Result<Vec<u64>, AllocError>
-    ensures { IfOk result (λ t. (vec_len t ≡ length calls.now) × Bounded words t.items) }
-{
-    if words >= WORDS {
-        return Err(AllocError);
+impl Game<'_> {
+    // The words touched in each call; none where there are too few to start.
+    pub fn touches(&self, heap: Global) -> Result<Vec<u64>, AllocError>
+        ensures { IfOk result (λ t. (vec_len t ≡ length self.now.calls.now) × Bounded self.now.words t.items) }
+    {
+        if self.words >= WORDS {
+            return Err(AllocError);
+        }
+        let mut words = vec![in heap; RUBBISH; self.words as usize]?;
+        let mut touches = vec![in heap; 0u64; self.calls.len()]?;
+        touch_from_start(
+            self.calls,
+            words.as_mut_slice(),
+            self.slots,
+            touches.as_mut_slice(),
+        );
+        Ok(touches)
     }
-    let mut words = vec![in heap; RUBBISH; words as usize]?;
-    let mut touches = vec![in heap; 0u64; calls.len()]?;
-    touch_from_start(calls, words.as_mut_slice(), slots, touches.as_mut_slice());
-    Ok(touches)
 }

@@ -36,7 +36,9 @@ fn ask(rt: &impl Abort, m: &mut Manager<Traced>, q: Ask) -> Result<Told, Fail> {
     m.words.count = 0;
     assert!(rt; is_sound(m));
     m.words.count = 0;
-    m.words.trace.clear();
+    if let Some(trace) = &mut m.words.trace {
+        trace.clear();
+    }
     match q {
         Ask::Get(t, s, i) => Ok(get(m, t, s, i)),
         Ask::Set(s, i, t) => Ok(set(m, s, i, t)),
@@ -50,7 +52,8 @@ fn ask(rt: &impl Abort, m: &mut Manager<Traced>, q: Ask) -> Result<Told, Fail> {
     }
 }
 
-// What a call answers, and which words it touches, in order.
+// What a call answers, and which words it touches, in order. The answer is two numbers here, so that a
+// call stays on one line.
 fn says(
     rt: &impl Abort,
     m: &mut Manager<Traced>,
@@ -59,11 +62,11 @@ fn says(
     val: u64,
     touches: &[usize],
 ) -> Result<(), Fail> {
-    let told = ask(rt, m, q)?;
-    assert_eq!(rt; told.code, code);
-    assert_eq!(rt; told.val, val);
-    assert!(rt; m.words.whole);
-    assert!(rt; m.words.trace.as_slice() == touches);
+    assert_eq!(rt; ask(rt, m, q)?, Told { code, val });
+    let Some(trace) = &m.words.trace else {
+        return Err(Fail::new("no trace"));
+    };
+    assert!(rt; trace.as_slice() == touches);
     Ok(())
 }
 

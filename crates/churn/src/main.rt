@@ -4,7 +4,8 @@
 ghost use Rattle.std.specs.Prelude.{◌≡◌, ◌+◌, ◌<◌, ◌≤◌, count_by, nat_lt};
 
 use anyhow::anyhow;
-use bench::{Random, Tally, answer_script, touch_script};
+use bench::{Game, Random, Tally};
+use driver::exit_code;
 use std::alloc::AllocError;
 use std::process::ExitCode;
 use std::{fmt, io};
@@ -139,35 +140,27 @@ fn churn(calls: &mut Vec<Ask>, random: &mut Random, least: u16) -> Result<(), Al
 
 // What the objects that are made weigh.
 fn weight_of(calls: &[Ask]) -> u64 {
-    let mut weight = 0u64;
-    for ask in calls {
-        if let Ask::New(_, places, words) = *ask {
-            weight = weight.saturating_add(2 + places as u64 + words as u64);
-        }
-    }
-    weight
+    calls
+        .iter()
+        .filter_map(|ask| match *ask {
+            Ask::New(_, places, words) => Some(2 + places as u64 + words as u64),
+            _ => None,
+        })
+        .fold(0u64, |weight, more| weight.saturating_add(more))
 }
 
 // How many of these calls collected.
 fn collections(touches: &[u64]) -> usize
     ensures { result ≡ count_by (nat_lt 1000) touches.now }
 {
-    let mut count = 0;
-    for touched in touches {
-        if *touched > COLLECTS {
-            count += 1;
-        }
-    }
-    count
+    touches
+        .iter()
+        .filter(|touched| **touched > COLLECTS)
+        .count()
 }
 
 fn all_done(told: &[Told]) -> bool {
-    for told in told {
-        if told.code != 1 {
-            return false;
-        }
-    }
-    true
+    told.iter().all(|told| told.code == 1)
 }
 
 fn print(rt: &HostRuntime, load: Load, held: u64, news: &[u64]) -> io::Result<()> {
@@ -195,11 +188,16 @@ fn measure(rt: &HostRuntime, load: Load) -> anyhow::Result<()> {
     let held = weight_of(calls.as_slice());
     let before = calls.len();
     churn(&mut calls, &mut random, load.least)?;
-    let told = answer_script(heap, WORDS, SLOTS, calls.as_slice())?;
+    let game = Game {
+        words: WORDS,
+        slots: SLOTS,
+        calls: calls.as_slice(),
+    };
+    let told = game.answers(heap)?;
     if !all_done(told.as_slice()) {
         return Err(anyhow!("a call is refused"));
     }
-    let touches = touch_script(heap, WORDS, SLOTS, calls.as_slice())?;
+    let touches = game.touches(heap)?;
     let Some(news) = touches.as_slice().get(before..) else {
         return Err(anyhow!("a call is not counted"));
     };
@@ -212,37 +210,13 @@ fn measure(rt: &HostRuntime, load: Load) -> anyhow::Result<()> {
 
 fn measure_all(rt: &HostRuntime) -> anyhow::Result<()> {
     for least in [0, CELLS] {
-        measure(
-            rt,
-            Load {
-                mostly: Mostly::Places,
-                least,
-            },
-        )?;
-        measure(
-            rt,
-            Load {
-                mostly: Mostly::Mixed,
-                least,
-            },
-        )?;
-        measure(
-            rt,
-            Load {
-                mostly: Mostly::Words,
-                least,
-            },
-        )?;
+        for mostly in [Mostly::Places, Mostly::Mixed, Mostly::Words] {
+            measure(rt, Load { mostly, least })?;
+        }
     }
     Ok(())
 }
 
 fn main(rt: HostRuntime) -> ExitCode {
-    match measure_all(&rt) {
-        Ok(()) => ExitCode::SUCCESS,
-        Err(why) => {
-            let _ = eprintln!(rt; "{why}");
-            ExitCode::FAILURE
-        }
-    }
+    exit_code(&rt, measure_all(&rt))
 }

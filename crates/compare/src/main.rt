@@ -4,7 +4,8 @@
 ghost use Rattle.std.specs.Prelude.{◌≤◌, max};
 
 use anyhow::anyhow;
-use bench::{Kind, Random, answer_script};
+use bench::{Game, Kind, Random};
+use driver::exit_code;
 use script::{AnswerText, CallText};
 use std::alloc::{AllocError, Global};
 use std::io::{BufWriter, Stdout, Write};
@@ -19,23 +20,15 @@ const COUNT: u64 = 2000;
 // An answer's code is below this.
 const CODES: usize = 5;
 
-// The row of the table for all calls, behind those of the ten kinds.
-const ALL: usize = 10;
+const KINDS: usize = 10;
 
-// A script and what it is played on.
-#[derive(Drop)]
-struct Game {
-    words: u16,
-    slots: u16,
-    calls: Vec<Ask>,
-}
-
-// What was counted: how often each answer's code came, by kind of call, and where the two differed.
-#[derive(Drop)]
+// What was counted: how often each answer's code came, by kind of call and in all, and where the two differed.
+#[derive(Default, Drop)]
 struct Counts {
     calls: u64,
     differences: u64,
-    answers: Vec<u64>,
+    by_kind: [[u64; CODES]; KINDS],
+    all: [u64; CODES],
 }
 
 // Mostly a slot that is there; sometimes one too many.
@@ -80,45 +73,32 @@ fn random_call(random: &mut Random, slots: u16, room: u16) -> Ask {
     }
 }
 
-// On few words; there may be too few for the slots.
-fn random_game(heap: Global, random: &mut Random) -> Result<Game, AllocError> {
-    let words = 66 + random.below(135);
-    let slots = 1 + random.below(6);
+fn random_calls(
+    heap: Global,
+    random: &mut Random,
+    slots: u16,
+    room: u16,
+) -> Result<Vec<Ask>, AllocError> {
     let mut calls = Vec::new(heap);
     for _ in 0..20 + random.below(41) {
-        calls.push(random_call(random, slots, words.saturating_sub(64 + slots)))?;
+        calls.push(random_call(random, slots, room))?;
     }
-    Ok(Game {
-        words,
-        slots,
-        calls,
-    })
+    Ok(calls)
+}
+
+// One answer more with its code.
+fn add_to(row: &mut [u64; CODES], told: Told) {
+    if let Some(count) = row.get_mut(told.code as usize) {
+        *count = count.saturating_add(1);
+    }
 }
 
 impl Counts {
-    fn new(heap: Global) -> Result<Counts, AllocError> {
-        let answers = vec![in heap; 0u64; CODES * (ALL + 1)]?;
-        Ok(Counts {
-            calls: 0,
-            differences: 0,
-            answers,
-        })
-    }
-
-    // One answer more in a row of the table.
-    fn add_to(&mut self, row: usize, told: Told)
-        requires { row ≤ 10 }
-    {
-        if let Some(count) = self.answers.get_mut(CODES * row + told.code as usize) {
-            *count = count.saturating_add(1);
-        }
-    }
-
     // One answer more.
     fn add(&mut self, ask: &Ask, told: Told) {
         self.calls = self.calls.saturating_add(1);
-        self.add_to(Kind::of(ask).number(), told);
-        self.add_to(ALL, told);
+        add_to(&mut self.by_kind[usize::from(Kind::from(ask))], told);
+        add_to(&mut self.all, told);
     }
 }
 
@@ -131,10 +111,7 @@ fn compare_answers(
     told: &[Told],
     plain: &[Told],
 ) -> io::Result<()> {
-    for (i, ask) in calls.iter().enumerate() {
-        let (Some(got), Some(wanted)) = (told.get(i), plain.get(i)) else {
-            continue;
-        };
+    for (i, ((ask, got), wanted)) in calls.iter().zip(told).zip(plain).enumerate() {
         counts.add(ask, *wanted);
         if got != wanted {
             counts.differences = counts.differences.saturating_add(1);
@@ -156,22 +133,16 @@ fn compare_one(
     out: &mut BufWriter<Stdout>,
     counts: &mut Counts,
     number: u64,
-    game: &Game,
+    game: Game<'_>,
 ) -> anyhow::Result<()> {
-    let Game {
-        words,
-        slots,
-        calls,
-    } = game;
-    let calls = calls.as_slice();
-    let room = (*words as usize).saturating_sub(64 + *slots as usize);
-    let told = answer_script(heap, *words as u64, *slots, calls)?;
-    let plain = PlainWorld::play(heap, room, *slots, calls)?;
+    let room = (game.words as usize).saturating_sub(64 + game.slots as usize);
+    let told = game.answers(heap)?;
+    let plain = PlainWorld::play(heap, room, game.slots, game.calls)?;
     compare_answers(
         out,
         counts,
         number,
-        calls,
+        game.calls,
         told.as_slice(),
         plain.as_slice(),
     )?;
@@ -186,10 +157,18 @@ fn compare_all(
     count: u64,
 ) -> anyhow::Result<Counts> {
     let mut random = Random { last: seed };
-    let mut counts = Counts::new(heap)?;
+    let mut counts = Counts::default();
     for number in 0..count {
-        let game = random_game(heap, &mut random)?;
-        compare_one(heap, out, &mut counts, number, &game)?;
+        // Few words; there may be too few for the slots.
+        let words = 66 + random.below(135);
+        let slots = 1 + random.below(6);
+        let calls = random_calls(heap, &mut random, slots, words.saturating_sub(64 + slots))?;
+        let game = Game {
+            words: words as u64,
+            slots,
+            calls: calls.as_slice(),
+        };
+        compare_one(heap, out, &mut counts, number, game)?;
     }
     Ok(counts)
 }
@@ -197,13 +176,10 @@ fn compare_all(
 fn print_row<N: fmt::Display>(
     out: &mut BufWriter<Stdout>,
     name: &N,
-    counts: &Counts,
-    row: usize,
-) -> io::Result<()>
-    requires { row ≤ 10 }
-{
+    counts: &[u64; CODES],
+) -> io::Result<()> {
     write!(out, "{name}")?;
-    for count in counts.answers.iter().skip(CODES * row).take(CODES) {
+    for count in counts {
         write!(out, " {count}")?;
     }
     writeln!(out)
@@ -214,10 +190,10 @@ fn print_counts(out: &mut BufWriter<Stdout>, scripts: u64, counts: &Counts) -> i
         out,
         "Answers by call: full, done, no such slot, nothing in the slot, no such place or word"
     )?;
-    for kind in Kind::ALL {
-        print_row(out, &kind, counts, kind.number())?;
+    for (kind, row) in Kind::ALL.iter().zip(&counts.by_kind) {
+        print_row(out, kind, row)?;
     }
-    print_row(out, &"All", counts, ALL)?;
+    print_row(out, &"All", &counts.all)?;
     let calls = counts.calls;
     let differences = counts.differences;
     writeln!(
@@ -229,10 +205,10 @@ fn print_counts(out: &mut BufWriter<Stdout>, scripts: u64, counts: &Counts) -> i
 // A number among the arguments, or what stands for it.
 fn number_or(word: Option<String>, default: u64) -> anyhow::Result<u64> {
     match word {
-        Some(word) => match word.as_str().parse::<u64>() {
-            Ok(number) => Ok(number),
-            Err(_) => Err(anyhow!("expected SEED and COUNT as numbers")),
-        },
+        Some(word) => word
+            .as_str()
+            .parse::<u64>()
+            .map_err(|_| anyhow!("expected SEED and COUNT as numbers")),
         None => Ok(default),
     }
 }
@@ -256,11 +232,5 @@ fn compare(rt: &HostRuntime) -> anyhow::Result<()> {
 }
 
 fn main(rt: HostRuntime) -> ExitCode {
-    match compare(&rt) {
-        Ok(()) => ExitCode::SUCCESS,
-        Err(why) => {
-            let _ = eprintln!(rt; "{why}");
-            ExitCode::FAILURE
-        }
-    }
+    exit_code(&rt, compare(&rt))
 }

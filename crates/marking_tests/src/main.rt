@@ -16,7 +16,7 @@ mod rows;
 
 use rows::Row;
 
-// What marking leaves: how many objects are marked, what they weigh, and whether all else is as it was.
+// What marking leaves: how many objects are marked, what they weigh, and whether all else is as it was. All three are printed.
 #[derive(Drop)]
 pub struct Outcome {
     pub marked: usize,
@@ -54,8 +54,7 @@ fn compared(before: &[u64], after: &[u64], slots: u16) -> Outcome {
         same: before.len() == after.len(),
     };
     let mut next = 64 + slots as usize;
-    for (i, word) in after.iter().enumerate() {
-        let old = before.get(i).copied().unwrap_or(0);
+    for (i, (old, word)) in before.iter().zip(after).enumerate() {
         let header = Header::unpack(*word);
         let begins = i == next;
         if begins {
@@ -66,28 +65,28 @@ fn compared(before: &[u64], after: &[u64], slots: u16) -> Outcome {
             out.weight = out.weight.wrapping_add(header.weight());
         }
         let same = if begins || i == 62 {
-            header.unmarked() == Header::unpack(old)
+            header.unmarked() == Header::unpack(*old)
         } else {
-            *word == old
+            word == old
         };
-        out.same = out.same && same;
+        out.same &= same;
     }
     out
 }
 
 // Marks one row and prints what came of it.
-fn try_row(rt: &HostRuntime, name: &str, row: Row) -> io::Result<()> {
-    let mut row = row;
+fn try_row(rt: &HostRuntime, name: &str, mut row: Row) -> io::Result<()> {
     let before = row.words.clone()?;
     let slots = row.slots;
     let Some(touches) = marking_of(&mut row) else {
         return println!(rt; "{name}: not sound");
     };
-    let out = compared(before.as_slice(), row.words.as_slice(), slots);
-    let marked = out.marked;
-    let weight = out.weight;
+    let Outcome {
+        marked,
+        weight,
+        same,
+    } = compared(before.as_slice(), row.words.as_slice(), slots);
     let bound = (row.words.len() as u64).wrapping_mul(3);
-    let same = out.same;
     let within = touches <= bound;
     println!(rt;
         "{name}: {marked} marked, weight {weight}, {touches} touches, at most {bound}: {within}, else as before: {same}"

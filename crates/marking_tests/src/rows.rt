@@ -31,9 +31,8 @@ impl Row {
     {
         let at = self.words.len();
         self.words.push(Header::plain(places, words).pack())?;
-        for _ in 0..1 + places as usize + words as usize {
-            self.words.push(0)?;
-        }
+        self.words
+            .resize(at + 2 + places as usize + words as usize, 0)?;
         let free = self.words.len() as u64;
         if let Some(word) = self.words.get_mut(2) {
             *word = free;

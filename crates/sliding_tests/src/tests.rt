@@ -1,5 +1,7 @@
 // Rows of two slots from 64 on and objects from 66 on. A header is 0x1_wwww_pppp if marked, else 0xwwww_pppp;
 // a reference to the object at 0xaa is 0xaa00.
+#![tactic(auto, using(crate::proofs::Deciding::decided), unfolding(layout::specs::Cells::layout, layout::specs::Sound::sound))]
+
 use crate::slid;
 use std::test::Fail;
 

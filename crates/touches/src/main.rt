@@ -1,8 +1,8 @@
 // Plays a script on the memory manager and prints how many words each call touches; with --summary also what each kind of call touches.
 #![tactic(auto)]
 
-use bench::{Kind, Tally, touch_script};
-use driver::{Fault, Script, read_script, report};
+use bench::{Game, Kind, Tally};
+use driver::{Fault, Script, exit_code, read_script};
 use std::io::{BufWriter, Stdout, Write};
 use std::process::ExitCode;
 use std::{env, fmt, io};
@@ -14,6 +14,12 @@ enum Failure {
     // the arguments cannot be read
     Unread(io::Error),
     Script(Fault),
+}
+
+impl From<Fault> for Failure {
+    fn from(fault: Fault) -> Failure {
+        Failure::Script(fault)
+    }
 }
 
 impl fmt::Display for Failure {
@@ -28,10 +34,7 @@ impl fmt::Display for Failure {
 
 // Is a summary wanted? Nothing else can be asked for.
 fn wants_summary(rt: &HostRuntime) -> Result<bool, Failure> {
-    let mut args = match env::args(rt) {
-        Ok(args) => args,
-        Err(why) => return Err(Failure::Unread(why)),
-    };
+    let mut args = env::args(rt).map_err(Failure::Unread)?;
     let _ = args.next();
     let Some(word) = args.next() else {
         return Ok(false);
@@ -89,26 +92,22 @@ fn print(rt: &HostRuntime, summary: bool, calls: &[Ask], touches: &[u64]) -> io:
 
 fn count_script(rt: &HostRuntime, summary: bool) -> Result<(), Fault> {
     let Script { size, calls, end } = read_script(rt)?;
-    let Ok(touches) = touch_script(rt.alloc(), size.words, size.slots, calls.as_slice()) else {
-        return Err(Fault::NoMemory(1));
+    let game = Game {
+        words: size.words,
+        slots: size.slots,
+        calls: calls.as_slice(),
     };
-    match print(rt, summary, calls.as_slice(), touches.as_slice()) {
-        Ok(()) => end,
-        Err(why) => Err(Fault::Unwritten(why)),
-    }
+    let touches = game.touches(rt.alloc()).map_err(|_| Fault::NoMemory(1))?;
+    print(rt, summary, game.calls, touches.as_slice()).map_err(Fault::Unwritten)?;
+    end
 }
 
 fn run(rt: &HostRuntime) -> Result<(), Failure> {
     let summary = wants_summary(rt)?;
-    match count_script(rt, summary) {
-        Ok(()) => Ok(()),
-        Err(fault) => Err(Failure::Script(fault)),
-    }
+    count_script(rt, summary)?;
+    Ok(())
 }
 
 fn main(rt: HostRuntime) -> ExitCode {
-    match report(&rt, run(&rt)) {
-        Ok(()) => ExitCode::SUCCESS,
-        Err(_) => ExitCode::FAILURE,
-    }
+    exit_code(&rt, run(&rt))
 }

@@ -1,20 +1,19 @@
 // Words of its own that keep a trace, for tests and measurements.
 #![tactic(auto)]
 
-ghost use Rattle.std.specs.Prelude.{◌≡◌, ℕ, ◌+◌, ◌<◌, true, [], length, vec_len, vec_capacity};
+ghost use Rattle.std.specs.Prelude.{◌≡◌, ℕ, ◌+◌, ◌<◌, [], vec_len, vec_capacity, IfSome, IsSome, IsSomeAnd};
 ghost use Rattle.traced.specs.Trace.{Noted};
 
 use std::alloc::Global;
 use words::Words;
 
-// A row of words, how often one was touched, and which, in order. The trace is whole as long as there
-// was memory for it.
+// A row of words, how often one was touched, and which, in order; no trace once there was no memory
+// for it.
 #[derive(Drop)]
 pub struct Traced {
     pub words: Vec<u64>,
     pub count: u64,
-    pub trace: Vec<usize>,
-    pub whole: bool,
+    pub trace: Option<Vec<usize>>,
 }
 
 impl Traced {
@@ -22,14 +21,12 @@ impl Traced {
     pub fn over(heap: Global, words: Vec<u64>) -> Traced
         ensures row { result.words ≡ words }
         ensures count { result.count ≡ 0 }
-        ensures trace { result.trace.items ≡ [] }
-        ensures whole { result.whole ≡ true }
+        ensures trace { IsSomeAnd result.trace (λ t. t.items ≡ []) }
     {
         Traced {
             words,
             count: 0,
-            trace: Vec::new(heap),
-            whole: true,
+            trace: Some(Vec::new(heap)),
         }
     }
 
@@ -38,12 +35,14 @@ impl Traced {
         requires { self.old.count < 9223372036854775808 }
         ensures words { self.new.words ≡ self.old.words }
         ensures count { self.new.count ≡ self.old.count + 1 }
-        ensures trace { Noted i self.old.whole self.old.trace.items self.new.whole self.new.trace.items }
-        ensures room { vec_len self.old.trace < vec_capacity self.old.trace → self.new.whole ≡ self.old.whole }
+        ensures trace { Noted i self.old.trace self.new.trace }
+        ensures room { IfSome self.old.trace (λ t. vec_len t < vec_capacity t → IsSome self.new.trace) }
     {
         self.count += 1;
-        if self.whole {
-            self.whole = self.trace.push(i).is_ok();
+        if let Some(trace) = &mut self.trace
+            && trace.push(i).is_err()
+        {
+            self.trace = None;
         }
     }
 }

@@ -1,21 +1,22 @@
--- A turn takes the first call and its touches off what is to come.
-use Rattle.std.proofs.Common.{sym, ap, ◌∙◌}
-use Rattle.bench.specs.Kinds.{number_of}
-use Rattle.std.proofs.lemmas.Slice.Zip.{Zip-more, either_empty_from_Zip}
-use Rattle.bench.proofs.Sorting.{kind_more, kind_other, kind_all}
+-- The chain folds the touches of the calls of the kind.
+use Rattle.std.proofs.Common.{◌≡◌, ◌==◌, ap, ◌∙◌, rules, tests}
+use Rattle.std.proofs.lemmas.Iterator.{YieldsList-from_slice, YieldsList-from_zip}
+use Rattle.std.proofs.lemmas.Iterator.Consumers.{YieldsList-at, YieldsList-from_filter, fold_from_yields_List}
+use Rattle.bench.specs.Kinds.{kind_of, number_of}
+use Rattle.bench.specs.Tallies.{none, and_one, of_kind}
+use Rattle.bench.specs.declared.tally.Tally.{Tally}
+use Rattle.bench.proofs.Sorting.{same_number, of_kind_filter}
 use Rattle.bench.proofs.tally.Tally.of_kind.Goals as goal
 
-pub loop-ask-preserved-then-number : goal.loop-ask-preserved-then-number
-loop-ask-preserved-then-number c =
-    let turn = Zip-more c.loop-ask.ask-iterator c.next.new.self c.next.result (c.in-Some.ask, c.in-Some.touched) c.in-Some.is c.next.ensures.steps in
-    let named = c.number.ensures ∙ ap number_of c.of.ensures in
-    kind_more _ _ _ _ _ _ _ _ _ _ (sym named ∙ c.if-number.true ∙ c.number-in-loop-ask.ensures) c.add.ensures turn.0 turn.1 c.loop-ask.invariant
-
-pub loop-ask-preserved : goal.loop-ask-preserved
-loop-ask-preserved c =
-    let turn = Zip-more c.loop-ask.ask-iterator c.next.new.self c.next.result (c.in-Some.ask, c.in-Some.touched) c.in-Some.is c.next.ensures.steps in
-    let named = c.number.ensures ∙ ap number_of c.of.ensures in
-    kind_other _ _ _ _ _ _ _ _ _ (λ e. c.if-number.false (named ∙ e ∙ sym c.number-in-loop-ask.ensures)) turn.0 turn.1 c.loop-ask.invariant
-
 pub returns : goal.returns
-returns c = kind_all _ _ _ _ _ (either_empty_from_Zip c.loop-ask.ask-iterator c.next.new.self c.next.result c.in-None.is c.next.ensures.steps) c.loop-ask.invariant
+returns c =
+    let start : c.default.result ≡ none = search rules in
+    fold_from_yields_List _ (λ t p. and_one t p.1) _ _ c.fold.ensures.ran
+    (YieldsList-from_filter _ (λ p. number_of (kind_of p.0) == number_of c.args.kind)
+    (YieldsList-at c.filter.ensures.source (YieldsList-from_zip
+    (YieldsList-at c.zip.ensures.first (YieldsList-from_slice c.args.calls.now c.iter.ensures.rest))
+    (YieldsList-from_slice c.args.touches.now (cc))))
+    c.filter.ensures.closure (λ x b q k. search (rules, tests, same_number)))
+    (λ a x b q k. search (rules, tests))
+    ∙ of_kind_filter c.args.kind _ c.args.calls.now c.args.touches.now
+    ∙ ap (λ (t : Tally). of_kind c.args.kind t c.args.calls.now c.args.touches.now) start
