@@ -35,6 +35,7 @@ impl Kind {
     ];
 }
 
+// A match: the kinds of `Ask` hold numbers, these don't.
 impl From<&Ask> for Kind {
     ghost from_gives = { λ ask kind. kind ≡ kind_of ask.now };
 
@@ -63,6 +64,7 @@ impl From<Kind> for usize {
     }
 }
 
+// The name of the variant, which nothing but Debug derives.
 impl fmt::Display for Kind {
     fn fmt<W: fmt::Write>(&self, f: &mut fmt::Formatter<W>) -> fmt::Result {
         write!(f, "{self:?}")

@@ -1,18 +1,16 @@
 // A script that is played on the manager, over words of the program's own.
-ghost use Rattle.std.specs.Prelude.{◌≡◌, ◌<◌, map, IfOk};
+ghost use Rattle.std.specs.Prelude.{◌≡◌, ◌<◌, ◌^◌, map, IfOk, vec_len};
 ghost use Rattle.world.specs.World.{blank};
 ghost use Rattle.world.specs.Script.{answers};
 ghost use Rattle.world.specs.Says.{room};
 ghost use Rattle.world.specs.Refusals.{answer_of};
 
 use std::alloc::{AllocError, Global};
+use store::ADDRESSES;
 use world::{Ask, Told};
 
 // What stands in the words before the manager has them: nothing is said of it.
-pub const RUBBISH: u64 = 0xaaaa_aaaa_aaaa_aaaa;
-
-// Addresses have 56 bits.
-pub const WORDS: u64 = 0x100_0000_0000_0000;
+const RUBBISH: u64 = 0xaaaa_aaaa_aaaa_aaaa;
 
 // A script, and how many words and slots it is played on.
 #[derive(Clone, Copy)]
@@ -23,14 +21,21 @@ pub struct Game<'a> {
 }
 
 impl Game<'_> {
+    // The words that the manager is lent. More than can have addresses are more than there is memory for.
+    pub(crate) fn rubbish(&self, heap: Global) -> Result<Vec<u64>, AllocError>
+        ensures { IfOk result (λ words. (vec_len words ≡ self.now.words) × (self.now.words < 2 ^ 56)) }
+    {
+        if self.words >= ADDRESSES as u64 {
+            return Err(AllocError);
+        }
+        Ok(vec![in heap; RUBBISH; self.words as usize]?)
+    }
+
     // What the calls are answered.
     pub fn answers(&self, heap: Global) -> Result<Vec<Told>, AllocError>
         ensures { IfOk result (λ told. map answer_of told.items ≡ answers (room self.now.words self.now.slots) (blank self.now.slots) self.now.calls.now) }
     {
-        if self.words >= WORDS {
-            return Err(AllocError);
-        }
-        let mut words = vec![in heap; RUBBISH; self.words as usize]?;
+        let mut words = self.rubbish(heap)?;
         let mut told = vec![in heap; Told { code: 0, val: 0 }; self.calls.len()]?;
         heap::play(
             self.calls,

@@ -28,7 +28,7 @@ impl Random {
         ensures after { self.new.last ≡ next_of self.old.last }
     {
         let upper = self.word() >> 32;
-        // a remainder by a u16
+        // below a u16, so try_from would need an arm that no number takes
         (upper % n.max(1) as u64) as u16
     }
 }

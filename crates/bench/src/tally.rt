@@ -24,7 +24,7 @@ impl Tally {
         }
     }
 
-    // Of calls that touched so many words each.
+    // Of calls that touched so many words each. No From: a slice of numbers is no tally.
     pub fn of(touches: &[u64]) -> Tally
         ensures { result ≡ fold and_one none touches.now }
     {
@@ -33,7 +33,7 @@ impl Tally {
             .fold(Tally::default(), |tally, touched| tally.add(*touched))
     }
 
-    // Of the calls of one kind, where touches has a number for each call.
+    // Of the calls of one kind, where touches has a number for each call, as the manager is handed calls and a row for answers.
     pub fn of_kind(kind: Kind, calls: &[Ask], touches: &[u64]) -> Tally
         ensures { result ≡ of_kind kind none calls.now touches.now }
     {

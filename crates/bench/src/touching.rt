@@ -3,21 +3,22 @@ ghost use Rattle.std.specs.Prelude.{◌≡◌, ℕ, ◌+◌, ◌*◌, ◌<◌, �
 ghost use Rattle.store.specs.Ready.{Ready};
 ghost use Rattle.bench.specs.Touches.{Bounded};
 
-use crate::playing::{Game, RUBBISH, WORDS};
+use crate::playing::Game;
 use heap::call;
 use std::alloc::{AllocError, Global};
 use store::{Manager, fits, start};
 use words::lent::Lent;
 use world::Ask;
 
-// On a manager, whatever its world is; as many touches as calls are written.
+// On a manager, whatever its world is; as many touches as calls are written. As `heap::play` with its parts, but touches are
+// kept and not answers.
 fn touch_on(calls: &[Ask], m: &mut Manager<Lent<'_>>, out: &mut [u64])
     requires room { length calls.now ≤ length out.old }
     requires ready { Ready m.old.slots m.old.words.words.now 0 }
     requires blank { Bounded (length m.old.words.words.now) out.old }
     ensures { Bounded (length m.old.words.words.now) out.new }
 {
-    // By index: of elements that iter_mut lent, nothing is known in the end.
+    // Tried zipped with `iter_mut`: an invariant then has no name for the elements that are done.
     for (i, q) in calls.iter().enumerate() {
         m.words.count = 0;
         let _ = call(m, q);
@@ -47,10 +48,7 @@ impl Game<'_> {
     pub fn touches(&self, heap: Global) -> Result<Vec<u64>, AllocError>
         ensures { IfOk result (λ t. (vec_len t ≡ length self.now.calls.now) × Bounded self.now.words t.items) }
     {
-        if self.words >= WORDS {
-            return Err(AllocError);
-        }
-        let mut words = vec![in heap; RUBBISH; self.words as usize]?;
+        let mut words = self.rubbish(heap)?;
         let mut touches = vec![in heap; 0u64; self.calls.len()]?;
         touch_from_start(
             self.calls,

@@ -39,6 +39,7 @@ fn ask(rt: &impl Abort, m: &mut Manager<Traced>, q: Ask) -> Result<Told, Fail> {
     if let Some(trace) = &mut m.words.trace {
         trace.clear();
     }
+    // a call a function, as in the manager
     match q {
         Ask::Get(t, s, i) => Ok(get(m, t, s, i)),
         Ask::Set(s, i, t) => Ok(set(m, s, i, t)),

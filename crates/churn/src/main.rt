@@ -34,6 +34,9 @@ const DROPPED: u16 = 4;
 // A call that touches more words than this has collected.
 const COLLECTS: u64 = 1000;
 
+// The code of a call that is done.
+const DONE: u8 = 1;
+
 // The average that no kind of held objects may come to, in hundredths.
 const LIMIT: u64 = 6000;
 
@@ -45,6 +48,7 @@ enum Mostly {
     Words,
 }
 
+// Here and below written by hand: nothing but the text is wanted, and std derives none.
 impl fmt::Display for Mostly {
     fn fmt<W: fmt::Write>(&self, f: &mut fmt::Formatter<W>) -> fmt::Result {
         let name = match self {
@@ -138,7 +142,7 @@ fn churn(calls: &mut Vec<Ask>, random: &mut Random, least: u16) -> Result<(), Al
     Ok(())
 }
 
-// What the objects that are made weigh.
+// What the objects that are made weigh. A match, since only one kind of call counts.
 fn weight_of(calls: &[Ask]) -> u64 {
     calls
         .iter()
@@ -160,7 +164,7 @@ fn collections(touches: &[u64]) -> usize
 }
 
 fn all_done(told: &[Told]) -> bool {
-    told.iter().all(|told| told.code == 1)
+    told.iter().all(|told| told.code == DONE)
 }
 
 fn print(rt: &HostRuntime, load: Load, held: u64, news: &[u64]) -> io::Result<()> {

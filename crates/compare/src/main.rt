@@ -11,7 +11,7 @@ use std::alloc::{AllocError, Global};
 use std::io::{BufWriter, Stdout, Write};
 use std::process::ExitCode;
 use std::{env, fmt, io};
-use world::{Ask, PlainWorld, Told};
+use world::{Ask, PlainWorld, Told, room_for};
 
 const SEED: u64 = 1;
 
@@ -31,59 +31,63 @@ struct Counts {
     all: [u64; CODES],
 }
 
-// Mostly a slot that is there; sometimes one too many.
-fn random_slot(random: &mut Random, slots: u16) -> u16
-    ensures { result ≤ slots }
-{
-    match random.below(24) {
-        0 => slots,
-        _ => random.below(slots),
-    }
-}
-
-// Mostly few; sometimes none, and sometimes as many as there is room.
-fn random_size(random: &mut Random, room: u16) -> u16
-    ensures { result ≤ max room 4 }
-{
-    match random.below(16) {
-        0..=2 => 0,
-        3 => random.below(room.saturating_add(1)),
-        _ => random.below(5),
-    }
-}
-
-fn random_call(random: &mut Random, slots: u16, room: u16) -> Ask {
-    let s = random_slot(random, slots);
-    let t = random_slot(random, slots);
-    let i = random.below(4);
-    match random.below(24) {
-        0..=7 => {
-            let places = random_size(random, room);
-            Ask::New(s, places, random_size(random, room))
-        }
-        8..=9 => Ask::Get(s, t, i),
-        10..=12 => Ask::Set(s, i, t),
-        13..=14 => Ask::Read(s, i),
-        15..=16 => Ask::Write(s, i, random.word()),
-        17..=18 => Ask::Copy(s, t),
-        19 => Ask::Clear(s),
-        20..=21 => Ask::Same(s, t),
-        22 => Ask::Sizes(s),
-        _ => Ask::Collect,
-    }
-}
-
-fn random_calls(
-    heap: Global,
-    random: &mut Random,
+// What a script made at random keeps to: so many slots, and so much room for an object.
+#[derive(Clone, Copy)]
+struct Limits {
     slots: u16,
     room: u16,
-) -> Result<Vec<Ask>, AllocError> {
-    let mut calls = Vec::new(heap);
-    for _ in 0..20 + random.below(41) {
-        calls.push(random_call(random, slots, room))?;
+}
+
+impl Limits {
+    // Mostly a slot that is there; sometimes one too many.
+    fn slot(self, random: &mut Random) -> u16
+        ensures { result ≤ self.slots }
+    {
+        match random.below(24) {
+            0 => self.slots,
+            _ => random.below(self.slots),
+        }
     }
-    Ok(calls)
+
+    // Mostly few; sometimes none, and sometimes as many as there is room.
+    fn size(self, random: &mut Random) -> u16
+        ensures { result ≤ max self.room 4 }
+    {
+        match random.below(16) {
+            0..=2 => 0,
+            3 => random.below(self.room.saturating_add(1)),
+            _ => random.below(5),
+        }
+    }
+
+    fn call(self, random: &mut Random) -> Ask {
+        let s = self.slot(random);
+        let t = self.slot(random);
+        let i = random.below(4);
+        match random.below(24) {
+            0..=7 => {
+                let places = self.size(random);
+                Ask::New(s, places, self.size(random))
+            }
+            8..=9 => Ask::Get(s, t, i),
+            10..=12 => Ask::Set(s, i, t),
+            13..=14 => Ask::Read(s, i),
+            15..=16 => Ask::Write(s, i, random.word()),
+            17..=18 => Ask::Copy(s, t),
+            19 => Ask::Clear(s),
+            20..=21 => Ask::Same(s, t),
+            22 => Ask::Sizes(s),
+            _ => Ask::Collect,
+        }
+    }
+
+    fn calls(self, heap: Global, random: &mut Random) -> Result<Vec<Ask>, AllocError> {
+        let mut calls = Vec::new(heap);
+        for _ in 0..20 + random.below(41) {
+            calls.push(self.call(random))?;
+        }
+        Ok(calls)
+    }
 }
 
 // One answer more with its code.
@@ -102,7 +106,7 @@ impl Counts {
     }
 }
 
-// Compares the answers to one script.
+// Compares the answers to one script, which come from two functions: so the lists are zipped.
 fn compare_answers(
     out: &mut BufWriter<Stdout>,
     counts: &mut Counts,
@@ -135,7 +139,7 @@ fn compare_one(
     number: u64,
     game: Game<'_>,
 ) -> anyhow::Result<()> {
-    let room = (game.words as usize).saturating_sub(64 + game.slots as usize);
+    let room = room_for(game.words as usize, game.slots);
     let told = game.answers(heap)?;
     let plain = PlainWorld::play(heap, room, game.slots, game.calls)?;
     compare_answers(
@@ -162,7 +166,8 @@ fn compare_all(
         // Few words; there may be too few for the slots.
         let words = 66 + random.below(135);
         let slots = 1 + random.below(6);
-        let calls = random_calls(heap, &mut random, slots, words.saturating_sub(64 + slots))?;
+        let room = words.saturating_sub(64 + slots);
+        let calls = Limits { slots, room }.calls(heap, &mut random)?;
         let game = Game {
             words: words as u64,
             slots,

@@ -1,11 +1,11 @@
-// The loop over the lines of a script.
+// One line of a script, answered by a machine.
 use crate::fault::Fault;
 use crate::machine::Machine;
 use script::{AnswerText, read_line};
 use std::io::Write;
 
-// One line: a call, which is answered and the answer printed, or nothing. `machine` and `out` are no struct, since plain
-// opens `out` before the first line makes its machine.
+// One line with its number, as a reader counts them: a call, which is answered and the answer printed, or nothing. `machine` and `out` are no struct,
+// since plain opens `out` before the first line makes its machine.
 pub fn play_line<M: Machine, W: Write>(
     machine: &mut M,
     out: &mut W,

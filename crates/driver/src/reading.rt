@@ -23,15 +23,15 @@ struct Reading {
     calls: Vec<Ask>,
 }
 
-// What the first line says, unless it is passed over.
+// What the first line says, unless it is passed over. As `read_line` of a call: a function for both would take the reader and
+// say no less.
 fn opening(line: &str) -> Result<Option<HeapSize>, LineError>
     ensures { result ≡ opening_of line.now }
 {
     if is_passed_over(line) {
         return Ok(None);
     }
-    let size = read_heap_size(line)?;
-    Ok(Some(size))
+    read_heap_size(line).map(Some)
 }
 
 impl Reading {

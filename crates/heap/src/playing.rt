@@ -27,7 +27,7 @@ fn empty(slots: u16, s: u16) -> Result<(), Refusal>
     }
 }
 
-// One call where there are not words enough to start: all slots are empty, and stay so.
+// One call where there are not words enough to start: all slots are empty, and stay so. A match, as each call has other slots.
 fn without_words(slots: u16, q: &Ask) -> Result<u64, Refusal>
     ensures { said result ≡ (answer 0 (blank slots) q.now).told }
 {
@@ -63,8 +63,8 @@ fn without_words(slots: u16, q: &Ask) -> Result<u64, Refusal>
     }
 }
 
-// A whole script where there are not words enough. Zipped with `iter_mut`, nothing is known of what was written: so here and below
-// an answer goes to the place that `enumerate` says.
+// A whole script where there are not words enough. Here and below an answer goes to the place that `enumerate` says: zipped with
+// `iter_mut` (tried), an invariant has no name for the elements that are done.
 fn play_without_words(script: &[Ask], slots: u16, out: &mut [Told])
     requires { length script.now ≤ length out.old }
     ensures { Tells 0 (blank slots) script.now out.old out.new }
@@ -86,7 +86,8 @@ fn play_on(script: &[Ask], m: &mut Manager<Lent<'_>>, out: &mut [Told])
     }
 }
 
-// A whole script on lent words, whatever stood in them: every answer is the one given in the plain world from blank.
+// A whole script on lent words, whatever stood in them: every answer is the one given in the plain world from blank. The
+// signature was given to the project.
 pub fn play(script: &[Ask], mem: &mut [u64], slots: u16, out: &mut [Told])
     requires { (length script.now ≤ length out.old) × (length mem.old < 72057594037927936) }
     ensures { PlaySays (length mem.old) slots script.now out.old out.new }

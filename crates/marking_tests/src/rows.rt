@@ -23,7 +23,8 @@ impl Row {
         Ok(Row { words, slots })
     }
 
-    // One object more, with empty places and words of 0; where it lies.
+    // One object more, with empty places and words of 0; where it lies. That a row keeps its number of slots is said here and
+    // below: each changes the row it is called on.
     fn object(&mut self, places: u16, words: u16) -> Result<usize, AllocError>
         ensures lies { IfOk result (λ at. at ≡ vec_len self.old.words) }
         ensures grown { IfOk result (λ _. Grown places words self.old.words.items self.new.words.items) }

@@ -112,3 +112,31 @@ answers_capped room w (Same s t) d =
     ∙ then_same w s _ _ (λ a. slot_last w t (λ k b. outcome 1 (bit (eqb a b)) w) d)
 answers_capped room w (Sizes s) d = slot_last w s (λ k a. holds w a (λ o. outcome 1 (65536 * length o.refs + length o.words) w)) d
 answers_capped room w Collect d = refl
+
+-- call by call
+pub wide_new : (room : ℕ) (w : World) (s r n : ℕ) → Narrow w → answer room w (New (min s 65535) r n) ≡ answer room w (New s r n)
+wide_new room w s r n d = answers_capped room w (New s r n) d
+
+pub wide_get : (room : ℕ) (w : World) (t s i : ℕ) → Narrow w → answer room w (Get (min t 65535) (min s 65535) (min i 65535)) ≡ answer room w (Get t s i)
+wide_get room w t s i d = answers_capped room w (Get t s i) d
+
+pub wide_set : (room : ℕ) (w : World) (s i t : ℕ) → Narrow w → answer room w (Set (min s 65535) (min i 65535) (min t 65535)) ≡ answer room w (Set s i t)
+wide_set room w s i t d = answers_capped room w (Set s i t) d
+
+pub wide_read : (room : ℕ) (w : World) (s i : ℕ) → Narrow w → answer room w (Read (min s 65535) (min i 65535)) ≡ answer room w (Read s i)
+wide_read room w s i d = answers_capped room w (Read s i) d
+
+pub wide_write : (room : ℕ) (w : World) (s i x : ℕ) → Narrow w → answer room w (Write (min s 65535) (min i 65535) x) ≡ answer room w (Write s i x)
+wide_write room w s i x d = answers_capped room w (Write s i x) d
+
+pub wide_copy : (room : ℕ) (w : World) (t s : ℕ) → Narrow w → answer room w (Copy (min t 65535) (min s 65535)) ≡ answer room w (Copy t s)
+wide_copy room w t s d = answers_capped room w (Copy t s) d
+
+pub wide_clear : (room : ℕ) (w : World) (t : ℕ) → Narrow w → answer room w (Clear (min t 65535)) ≡ answer room w (Clear t)
+wide_clear room w t d = answers_capped room w (Clear t) d
+
+pub wide_same : (room : ℕ) (w : World) (s t : ℕ) → Narrow w → answer room w (Same (min s 65535) (min t 65535)) ≡ answer room w (Same s t)
+wide_same room w s t d = answers_capped room w (Same s t) d
+
+pub wide_sizes : (room : ℕ) (w : World) (s : ℕ) → Narrow w → answer room w (Sizes (min s 65535)) ≡ answer room w (Sizes s)
+wide_sizes room w s d = answers_capped room w (Sizes s) d

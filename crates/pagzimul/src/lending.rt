@@ -7,11 +7,8 @@ ghost use Rattle.layout.specs.Sound.{sound};
 ghost use Rattle.pagzimul.specs.Lent.{managed, startable, Usable};
 
 use soundness::is_sound;
-use store::{Manager, start};
+use store::{ADDRESSES, Manager, OWN, start};
 use words::lent::Lent;
-
-// Addresses have 56 bits.
-const ADDRESSES: usize = 0x100_0000_0000_0000;
 
 // What is_sound touches is counted in 63 bits, and is at most the square of one more than this.
 const CHECKED: usize = 3_000_000_000;
@@ -21,7 +18,7 @@ const CHECKED: usize = 3_000_000_000;
 pub extern "C" fn pagzimul_fits(words: &[u64], slots: u64) -> bool
     ensures { result ≡ startable (length words.now) slots }
 {
-    slots < 65536 && words.len() < ADDRESSES && 64 + slots as usize <= words.len()
+    slots < 65536 && words.len() < ADDRESSES && OWN + slots as usize <= words.len()
 }
 
 // Does a piece of work on a manager over lent words, and hands back the words with what it gave: by value, since the prover
@@ -39,7 +36,7 @@ pub fn with_manager<'a, R, F: FnOnce(&mut Manager<Lent<'a>>) -> R>(
 {
     let mut m = Manager {
         words: Lent { words, count: 0 },
-        // what is asked of the caller
+        // `few` keeps it below 65,536
         slots: slots as u16,
     };
     let done = work(&mut m);

@@ -8,7 +8,7 @@ use script::{HeapSize, is_passed_over, read_heap_size};
 use std::alloc::{AllocError, Global};
 use std::io::{BufRead, BufReader, BufWriter, Stdout, Write};
 use std::process::ExitCode;
-use world::{Ask, PlainWorld, Told};
+use world::{Ask, PlainWorld, Told, room_for};
 
 #[derive(Drop)]
 struct Plain(PlainWorld);
@@ -24,7 +24,7 @@ impl Machine for Plain {
 // The world that the first line asks for.
 fn begin(heap: Global, number: usize, line: &str) -> Result<Plain, Fault> {
     let HeapSize { words, slots } = read_heap_size(line).map_err(|why| Fault::Line(number, why))?;
-    let room = (words as usize).saturating_sub(64 + slots as usize);
+    let room = room_for(words as usize, slots);
     let world = PlainWorld::new(heap, room, slots).map_err(|_| Fault::NoMemory(number))?;
     Ok(Plain(world))
 }

@@ -19,7 +19,7 @@ pub enum LineError {
 }
 
 impl LineError {
-    // What was expected.
+    // What was expected; `Display` stands on it.
     pub fn expected(self) -> &'static str
         ensures { result.now ≡ error_text self }
     {

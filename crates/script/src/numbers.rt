@@ -11,8 +11,9 @@ fn all_digits(token: &[u8]) -> bool
     token.iter().all(|byte| byte.is_ascii_digit())
 }
 
-// The number that a token writes, if it is at most `most`. No token is empty, as the one caller shows.
-pub fn number(token: &str, most: u64, over: LineError) -> Result<u64, LineError>
+// The number that a token writes, if it is at most `most`: no FromStr, which has no limit and no error for it. No token is
+// empty, as the one caller shows.
+pub(crate) fn number(token: &str, most: u64, over: LineError) -> Result<u64, LineError>
     requires { 0 < length token.now }
     ensures value { result ≡ number_of most over token.now }
     ensures small { IfOk result (λ n. n ≤ most) }

@@ -9,7 +9,7 @@ use crate::tokens::split_token;
 use world::Ask;
 
 // What the first line of a script says.
-#[derive(Clone, Copy)]
+#[derive(Clone, Copy, PartialEq, Eq, Debug)]
 pub struct HeapSize {
     pub words: u64,
     pub slots: u16,
@@ -96,6 +96,5 @@ pub fn read_line(line: &str) -> Result<Option<Ask>, LineError>
     if is_passed_over(line) {
         return Ok(None);
     }
-    let call = read_call(line)?;
-    Ok(Some(call))
+    read_call(line).map(Some)
 }

@@ -26,7 +26,7 @@ pub fn indices<const N: usize>(line: &str) -> Result<([u16; N], &str), LineError
     let mut rest = line;
     for index in &mut indices {
         let (n, line) = next_number(rest, 65_535, LineError::IndexTooLarge)?;
-        // at most 65,535
+        // at most 65,535, so try_from would need an arm that no number takes
         *index = n as u16;
         rest = line;
     }

@@ -31,7 +31,7 @@ fn blanks_and_zeros_are_allowed(rt: HostRuntime) {
 }
 
 #[test]
-fn refusals(rt: HostRuntime) -> Result<(), Fail> {
+fn refusals(rt: HostRuntime) {
     assert_eq!(rt; read_call("new 0 2 1"), Err(LineError::UnknownCall));
     assert_eq!(rt; read_call("Copy 1"), Err(LineError::TooFewNumbers));
     assert_eq!(rt; read_call("Collect 0"), Err(LineError::TooManyNumbers));
@@ -41,11 +41,8 @@ fn refusals(rt: HostRuntime) -> Result<(), Fail> {
         read_call("Write 0 3 18446744073709551616"),
         Err(LineError::ValueTooLarge)
     );
-    match read_heap_size("72057594037927936 4") {
-        Ok(_) => Err(Fail::new("too many words")),
-        Err(why) => {
-            assert_eq!(rt; why, LineError::WordsTooLarge);
-            Ok(())
-        },
-    }
+    assert_eq!(rt;
+        read_heap_size("72057594037927936 4"),
+        Err(LineError::WordsTooLarge)
+    );
 }

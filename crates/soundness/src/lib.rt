@@ -7,7 +7,7 @@ ghost use Rattle.layout.specs.Sound.{all_of, cell_ok, ends, none_header, referen
 ghost use Rattle.soundness.specs.Walkable.{IsWalkable};
 ghost use Rattle.store.specs.Frame.{Looks, TouchesAtMost};
 
-use store::{Manager, Object, Objects, ROOT, none_header};
+use store::{Manager, OWN, Object, Objects, ROOT, none_header};
 use words::Words;
 use words::header::Header;
 use words::names::Addr;
@@ -34,7 +34,7 @@ pub fn is_sound<W: Words>(m: &mut Manager<W>) -> bool
     if !are_objects(m, free) {
         return false;
     }
-    are_references(m, free, 64, m.slots as usize)
+    are_references(m, free, OWN, m.slots as usize)
 }
 
 // Have none and the root their headers?
@@ -109,7 +109,7 @@ fn are_references<W: Words>(m: &mut Manager<W>, free: usize, from: usize, count:
     ensures looks { Looks W.Words m.old m.new }
     ensures touches { TouchesAtMost (count * (1 + free)) W.Words m.old m.new }
 {
-    // No `all`: a closure that touches the words leaves nothing known of them.
+    // Tried with `all`: what is_reference asks stays open, since nothing is known of words that such a closure has touched.
     for i in 0..count {
         if !is_reference(m, free, from + i) {
             return false;

@@ -10,5 +10,5 @@ mod slots;
 
 pub use cursor::Objects;
 pub use empty::{fits, none_header, start};
-pub use manager::{Manager, ROOT};
+pub use manager::{ADDRESSES, Manager, OWN, ROOT};
 pub use objects::Object;

@@ -22,6 +22,7 @@ impl From<Fault> for Failure {
     }
 }
 
+// Written by hand: touches stands on std alone.
 impl fmt::Display for Failure {
     fn fmt<W: fmt::Write>(&self, f: &mut fmt::Formatter<W>) -> fmt::Result {
         match self {
@@ -70,7 +71,7 @@ fn print_tally<K: fmt::Display>(
     writeln!(out, "{kind} {calls} {total} {whole}.{tenth} {worst}")
 }
 
-// A line for each kind of call that occurred, and one for all.
+// A line for each kind of call that occurred, and one for all; touches has a number for each call.
 fn print_summary(out: &mut BufWriter<Stdout>, calls: &[Ask], touches: &[u64]) -> io::Result<()> {
     for kind in Kind::ALL {
         let tally = Tally::of_kind(kind, calls, touches);

@@ -7,8 +7,8 @@ ghost use Rattle.traced.specs.Trace.{Noted};
 use std::alloc::Global;
 use words::Words;
 
-// A row of words, how often one was touched, and which, in order; no trace once there was no memory
-// for it.
+// A row of words, how often one was touched, and which, in order and with repeats, so a list; no trace once there was no
+// memory for it.
 #[derive(Drop)]
 pub struct Traced {
     pub words: Vec<u64>,

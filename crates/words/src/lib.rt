@@ -28,6 +28,7 @@ pub trait Words {
         ensures one { touched self.new ≡ touched self.old + 1 }
         ensures lender { lender self.new ≡ lender self.old };
 
+    // An index with the word for it, as slices are written.
     fn put(&mut self, i: usize, x: u64)
         requires { (i < length (row self.old)) × (touched self.old < 9223372036854775808) }
         ensures after { row self.new ≡ slice_set (row self.old) i x }

@@ -14,3 +14,4 @@ pub mod Walking
 pub mod Finding
 pub mod Doing
 pub mod PlainCalls
+pub mod Arms

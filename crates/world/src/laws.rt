@@ -5,7 +5,7 @@ ghost use Rattle.world.specs.Laws.{AlikeStep, AlikeEquivalence, ReachedClosed, W
 ghost use Rattle.world.specs.Examples.{WorkedScripts};
 
 // Alike worlds weigh the same, so that they are full at the same calls.
-// The signatures of this one and the next are given to us: they answer a number that says nothing.
+// The signatures of this one and the next were given to the project: they answer a number that says nothing.
 pub fn alike_weighs() -> u8
     ensures { AlikeWeighs }
 {

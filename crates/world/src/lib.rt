@@ -6,6 +6,7 @@ mod object;
 mod plain;
 mod reach;
 mod refusal;
+mod room;
 
 pub use laws::{
     alike_answers, alike_equivalence, alike_step, alike_weighs, reached_closed, staying_valid,
@@ -13,6 +14,7 @@ pub use laws::{
 };
 pub use plain::PlainWorld;
 pub use refusal::Refusal;
+pub use room::room_for;
 
 // What a mutator asks. Slots, places, words and sizes are numbers below 65,536.
 #[derive(Clone, Copy, PartialEq, Eq, Debug)]
