@@ -4,7 +4,8 @@
 usage: tools/same_contracts.py OLD NEW     each a checkout
 
 The definitions of store/specs/Frame, and IsRoomy, IsWalkable, ActsOn and CallsOn, are written out as the clauses that they
-stand for; names of clauses, blanks and parentheses don't count. It prints how many contracts are the same, each that differs,
+stand for; names of clauses, blanks and parentheses don't count, so that a change of grouping would not show, and lines that
+begin with `ghost` are not read. It prints how many contracts are the same, each that differs,
 those of functions that are gone, and those that are new.
 """
 import re
