@@ -41,14 +41,14 @@ fn ask(rt: &impl Abort, m: &mut Manager<Traced>, q: Ask) -> Result<Told, Fail> {
     }
     // a call a function, as in the manager
     match q {
-        Ask::Get(t, s, i) => Ok(get(m, t, s, i)),
-        Ask::Set(s, i, t) => Ok(set(m, s, i, t)),
-        Ask::Read(s, i) => Ok(read(m, s, i)),
-        Ask::Write(s, i, x) => Ok(write(m, s, i, x)),
-        Ask::Copy(t, s) => Ok(copy(m, t, s)),
-        Ask::Clear(t) => Ok(clear(m, t)),
-        Ask::Same(s, t) => Ok(same(m, s, t)),
-        Ask::Sizes(s) => Ok(sizes(m, s)),
+        Ask::Get(t, s, i) => Ok(get(m, t as u64, s as u64, i as u64)),
+        Ask::Set(s, i, t) => Ok(set(m, s as u64, i as u64, t as u64)),
+        Ask::Read(s, i) => Ok(read(m, s as u64, i as u64)),
+        Ask::Write(s, i, x) => Ok(write(m, s as u64, i as u64, x)),
+        Ask::Copy(t, s) => Ok(copy(m, t as u64, s as u64)),
+        Ask::Clear(t) => Ok(clear(m, t as u64)),
+        Ask::Same(s, t) => Ok(same(m, s as u64, t as u64)),
+        Ask::Sizes(s) => Ok(sizes(m, s as u64)),
         Ask::New(_, _, _) | Ask::Collect => Err(Fail::new("no such call here")),
     }
 }
