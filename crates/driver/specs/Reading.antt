@@ -1,6 +1,7 @@
--- What the lines of a script say, one after the other.
-use Rattle.std.specs.Prelude.{◌≡◌, ℕ, ◌+◌, ◌<◌, cond, List, [], ◌∷◌, ◌++◌, length, take, IfErr, Some, None, Ok, Err, vec_items, Option, Result, Vec, MatchResult, slice_index_or}
+-- What the lines of a script say, one after the other, and which lines an input has.
+use Rattle.std.specs.Prelude.{◌≡◌, ℕ, zero, suc, ◌+◌, ◌<◌, cond, List, [], ◌∷◌, ◌++◌, length, take, IfOk, IfErr, IfSome, Some, None, Ok, Err, vec_items, Option, Result, Vec, MatchResult, slice_index_or}
 use Rattle.std.specs.Result.{result_and}
+use Rattle.std.specs.Io.BufRead.{first_line, drop_through}
 use Rattle.std.specs.declared.alloc.Global.{Global}
 use Rattle.world.specs.declared.Ask.{Ask}
 use Rattle.script.specs.declared.error.LineError.{LineError}
@@ -95,14 +96,28 @@ Cuts n (Unwritten e) = ⊥
 abbrev pub EndsBehind : ℕ → Result (Unit {0}) Fault → Type 0
 EndsBehind n r = IfErr r (λ f. Cuts (n + 1) f)
 
--- the lines of some input are taken, up to one that ends the reading; such a line counts before how the input ended
-pub record TakesInput (s t : Said) (r : Result (Unit {0}) Fault) : Type 0 where
+-- the lines of some bytes, without their ends; there are no more lines than bytes
+abbrev pub lines_up_to : ℕ → List ℕ → List (List ℕ)
+lines_up_to zero bs = []
+lines_up_to (suc k) [] = []
+lines_up_to (suc k) (b ∷ bs) = first_line (b ∷ bs) ∷ lines_up_to k (drop_through 10 (b ∷ bs))
+
+abbrev pub all_lines : List ℕ → List (List ℕ)
+all_lines bs = lines_up_to (length bs) bs
+
+-- where the input's bytes are known: these are its first lines, and all of them if nothing ended the reading before
+abbrev pub AreLinesOf : Option (List ℕ) → List (List ℕ) → Result (Unit {0}) Fault → Type 0
+AreLinesOf bytes lines r = IfSome bytes (λ bs. (lines ≡ take (length lines) (all_lines bs)) × IfOk r (λ _. lines ≡ all_lines bs))
+
+-- the lines of an input are taken, up to one that ends the reading; such a line counts before how the input ended
+pub record TakesInput (bytes : Option (List ℕ)) (s t : Said) (r : Result (Unit {0}) Fault) : Type 0 where
   pub lines : List (List ℕ)
   pub end : Result (Unit {0}) Fault
   pub input : Result (Unit {0}) Fault
   pub takes : TakesAll s lines t end
   pub ends : EndsBehind (length lines) input
   pub is : r ≡ result_and end input
+  pub are : AreLinesOf bytes lines r
 
 -- what the lines of an input come to; a line that ends the reading counts before how the input ended
 pub record Says (lines : List (List ℕ)) (input : Result (Unit {0}) Fault) (r : Result Script Fault) : Type 0 where
@@ -111,9 +126,10 @@ pub record Says (lines : List (List ℕ)) (input : Result (Unit {0}) Fault) (r :
   pub takes : TakesAll nothing lines (so_far read) end
   pub script : r ≡ script_of read.size read.calls (result_and end input)
 
--- what some input comes to
-pub record SaidByLines (r : Result Script Fault) : Type 0 where
+-- what an input comes to
+pub record SaidBy (bytes : Option (List ℕ)) (r : Result Script Fault) : Type 0 where
   pub lines : List (List ℕ)
   pub input : Result (Unit {0}) Fault
   pub ends : EndsBehind (length lines) input
   pub says : Says lines input r
+  pub are : AreLinesOf bytes lines (result_and says.end input)

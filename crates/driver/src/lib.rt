@@ -10,5 +10,5 @@ mod reading;
 pub use fault::Fault;
 pub use lines::play_line;
 pub use machine::Machine;
-pub use printing::{exit_code, print_answers, report};
-pub use reading::{Script, read_script};
+pub use printing::{exit_code, open_output, print_answers, report};
+pub use reading::{Script, open_input, read_script};

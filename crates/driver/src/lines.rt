@@ -1,4 +1,6 @@
 // One line of a script, answered by a machine.
+ghost use Rattle.driver.specs.Memories.{Plays};
+
 use crate::fault::Fault;
 use crate::machine::Machine;
 use script::{AnswerText, read_line};
@@ -12,8 +14,7 @@ pub fn play_line<M: Machine, W: Write>(
     number: usize,
     line: &str,
 ) -> Result<(), Fault>
-    requires { M.Machine.ready machine.old }
-    ensures { M.Machine.ready machine.new }
+    ensures { Plays line.now (M.memory machine.old) (W.contents out.old) number (M.memory machine.new) (W.contents out.new) result }
 {
     let Some(ask) = read_line(line).map_err(|why| Fault::Line(number, why))? else {
         return Ok(());

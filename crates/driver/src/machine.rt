@@ -1,12 +1,13 @@
 // What answers the calls of a script.
+ghost use Rattle.driver.specs.Memories.{Memory, Answers};
+
 use std::alloc::AllocError;
 use world::{Ask, Told};
 
-// A memory with its slots. What holds of it between calls is for each machine to say.
+// A memory with its slots.
 pub trait Machine {
-    ghost ready: { Self → Type 0 };
+    ghost memory: { Self → Memory };
 
     fn answer(&mut self, ask: &Ask) -> Result<Told, AllocError>
-        requires { ready self.old }
-        ensures { ready self.new };
+        ensures { Answers (memory self.old) ask.now (memory self.new) result };
 }

@@ -1,20 +1,32 @@
-// The answers on standard output, a fault on standard error, and the status that a program ends with.
-ghost use Rattle.std.specs.Prelude.{◌≡◌, cond};
+// The answers of a script as lines, a fault on standard error, and the status that a program ends with.
+ghost use Rattle.std.specs.Prelude.{◌≡◌, cond, map, IfErr, IfOk};
+ghost use Rattle.std.specs.Io.KnownBytes.{Appends};
 ghost use Rattle.std.specs.Process.{exit_status};
 ghost use Rattle.std.specs.Result.{is_ok};
-ghost use Rattle.driver.specs.Playing.{Answered, Ends};
+ghost use Rattle.world.specs.Refusals.{answer_of};
+ghost use Rattle.driver.specs.declared.fault.Fault.TheVariants.{NoMemory};
+ghost use Rattle.driver.specs.Playing.{Answered, Ends, printed};
 
 use crate::fault::Fault;
 use crate::reading::Script;
 use script::AnswerText;
 use std::alloc::AllocError;
-use std::io::{BufWriter, Write};
+use std::io::{BufWriter, Stdout, Write};
 use std::process::ExitCode;
 use std::{fmt, io};
 use world::Told;
 
-fn print(rt: &HostRuntime, told: &[Told]) -> io::Result<()> {
-    let mut out = BufWriter::new(rt.alloc(), rt.stdout())?;
+// Standard output, to be written in large pieces.
+pub fn open_output(rt: &HostRuntime) -> Result<BufWriter<Stdout>, Fault>
+    ensures { IfErr result (λ f. f ≡ NoMemory 1) }
+{
+    BufWriter::new(rt.alloc(), rt.stdout()).map_err(|_| Fault::NoMemory(1))
+}
+
+// The answers, a line each.
+fn print<W: Write>(out: &mut W, told: &[Told]) -> io::Result<()>
+    ensures { IfOk result (λ _. Appends (W.contents out.old) (W.contents out.new) (printed (map answer_of told.now))) }
+{
     for told in told {
         let text = AnswerText(*told);
         writeln!(out, "{text}")?;
@@ -23,16 +35,16 @@ fn print(rt: &HostRuntime, told: &[Told]) -> io::Result<()> {
 }
 
 // Prints what is told of a script, the answers of the plain world, and says why the script ended where it did.
-pub fn print_answers(
-    rt: &HostRuntime,
+pub fn print_answers<W: Write>(
+    out: &mut W,
     script: Script,
     told: Result<Vec<Told>, AllocError>,
 ) -> Result<(), Fault>
     requires { Answered script told }
-    ensures { Ends script told result }
+    ensures { Ends script told (W.contents out.old) (W.contents out.new) result }
 {
     let told = told.map_err(|_| Fault::NoMemory(1))?;
-    print(rt, told.as_slice()).map_err(Fault::Unwritten)?;
+    print(out, told.as_slice()).map_err(Fault::Unwritten)?;
     script.end
 }
 

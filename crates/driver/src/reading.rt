@@ -1,11 +1,12 @@
-// A whole script from standard input.
-ghost use Rattle.std.specs.Prelude.{◌≡◌};
-ghost use Rattle.driver.specs.Reading.{opening as opening_of, so_far, Takes, TakesInput, nothing, script_of, SaidByLines};
+// A whole script from an input.
+ghost use Rattle.std.specs.Prelude.{◌≡◌, IfErr};
+ghost use Rattle.driver.specs.declared.fault.Fault.TheVariants.{NoMemory};
+ghost use Rattle.driver.specs.Reading.{opening as opening_of, so_far, Takes, TakesInput, nothing, script_of, SaidBy};
 
 use crate::fault::Fault;
 use script::{HeapSize, LineError, is_passed_over, read_heap_size, read_line};
 use std::alloc::Global;
-use std::io::{BufRead, BufReader};
+use std::io::{BufRead, BufReader, Stdin};
 use world::Ask;
 
 // What was read of a script: its first line, the calls of the lines that were taken, and how that ended.
@@ -59,13 +60,12 @@ impl Reading {
         }
     }
 
-    // The lines of standard input, up to one that is refused, finds no memory or cannot be read.
-    fn take_input(&mut self, rt: &HostRuntime) -> Result<(), Fault>
-        ensures { TakesInput (so_far self.old) (so_far self.new) result }
+    // The lines of an input, up to one that is refused, finds no memory or cannot be read.
+    fn take_input<R: BufRead + Drop>(&mut self, heap: Global, input: R) -> Result<(), Fault>
+        ensures { TakesInput (R.remaining input) (so_far self.old) (so_far self.new) result }
     {
-        let heap = rt.alloc();
-        let input = BufReader::new(heap, rt.stdin()).map_err(|_| Fault::NoMemory(1))?;
-        for (number, line) in (1..).zip(input.lines(heap)) {
+        for (above, line) in input.lines(heap).enumerate() {
+            let number = above + 1;
             let line = line.map_err(|why| Fault::Unread(number, why))?;
             self.take_line(number, line.as_str())?;
         }
@@ -87,11 +87,18 @@ impl Reading {
     }
 }
 
-// The script on standard input, as far as it can be read.
-pub fn read_script(rt: &HostRuntime) -> Result<Script, Fault>
-    ensures { SaidByLines result }
+// Standard input, to be read line by line.
+pub fn open_input(rt: &HostRuntime) -> Result<BufReader<Stdin>, Fault>
+    ensures { IfErr result (λ f. f ≡ NoMemory 1) }
 {
-    let mut reading = Reading::new(rt.alloc());
-    let end = reading.take_input(rt);
+    BufReader::new(rt.alloc(), rt.stdin()).map_err(|_| Fault::NoMemory(1))
+}
+
+// The script that an input holds, as far as it can be read.
+pub fn read_script<R: BufRead + Drop>(heap: Global, input: R) -> Result<Script, Fault>
+    ensures { SaidBy (R.remaining input) result }
+{
+    let mut reading = Reading::new(heap);
+    let end = reading.take_input(heap, input);
     reading.script(end)
 }

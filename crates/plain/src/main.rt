@@ -1,12 +1,10 @@
 // Plays a script on the plain world: the answers on standard output, a fault on standard error with its line.
 #![tactic(auto)]
 
-ghost use Rattle.std.specs.Prelude.{⊤};
-
-use driver::{Fault, Machine, exit_code, play_line};
+use driver::{Fault, Machine, exit_code, open_input, open_output, play_line};
 use script::{HeapSize, is_passed_over, read_heap_size};
 use std::alloc::{AllocError, Global};
-use std::io::{BufRead, BufReader, BufWriter, Stdout, Write};
+use std::io::{BufRead, BufWriter, Stdout, Write};
 use std::process::ExitCode;
 use world::{Ask, PlainWorld, Told, room_for};
 
@@ -14,7 +12,9 @@ use world::{Ask, PlainWorld, Told, room_for};
 struct Plain(PlainWorld);
 
 impl Machine for Plain {
-    ghost ready = { λ _. ⊤ };
+    ghost use Rattle.world.specs.View.{view};
+
+    ghost memory = { λ p. record { room = p.0.room; world = view p.0 } };
 
     fn answer(&mut self, ask: &Ask) -> Result<Told, AllocError> {
         self.0.call(ask)
@@ -33,8 +33,7 @@ fn begin(heap: Global, number: usize, line: &str) -> Result<Plain, Fault> {
 fn answer_all(rt: &HostRuntime, out: &mut BufWriter<Stdout>) -> Result<(), Fault> {
     let heap = rt.alloc();
     let mut machine: Option<Plain> = None;
-    let input = BufReader::new(heap, rt.stdin()).map_err(|_| Fault::NoMemory(1))?;
-    for (number, line) in (1..).zip(input.lines(heap)) {
+    for (number, line) in (1..).zip(open_input(rt)?.lines(heap)) {
         let line = line.map_err(|why| Fault::Unread(number, why))?;
         match &mut machine {
             Some(machine) => play_line(machine, out, number, line.as_str())?,
@@ -50,7 +49,7 @@ fn answer_all(rt: &HostRuntime, out: &mut BufWriter<Stdout>) -> Result<(), Fault
 
 // The answers so far are written before a fault is said.
 fn play_input(rt: &HostRuntime) -> Result<(), Fault> {
-    let mut out = BufWriter::new(rt.alloc(), rt.stdout()).map_err(|_| Fault::NoMemory(1))?;
+    let mut out = open_output(rt)?;
     let played = answer_all(rt, &mut out);
     let flushed = out.flush();
     played?;

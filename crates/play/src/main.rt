@@ -1,11 +1,13 @@
 // Plays a script on the memory manager: the answers on standard output, a fault on standard error with its line.
 #![tactic(auto)]
 
-ghost use Rattle.driver.specs.Playing.{Answered};
+ghost use Rattle.driver.specs.Playing.{Answered, PlaysRead};
+ghost use Rattle.driver.specs.Reading.{SaidBy};
 
 use bench::Game;
-use driver::{Fault, Script, exit_code, print_answers, read_script};
+use driver::{Fault, Script, exit_code, open_input, open_output, print_answers, read_script};
 use std::alloc::{AllocError, Global};
+use std::io::{BufRead, Write};
 use std::process::ExitCode;
 use world::Told;
 
@@ -20,12 +22,26 @@ fn answer(heap: Global, script: &Script) -> Result<Vec<Told>, AllocError>
     game.answers(heap)
 }
 
-fn play_script(rt: &HostRuntime) -> Result<(), Fault> {
-    let script = read_script(rt)?;
-    let told = answer(rt.alloc(), &script);
-    print_answers(rt, script, told)
+// The script that an input holds, from its bytes to those of the answers: what its lines say is played, and printed is what the
+// plain world answers.
+fn play_script<R: BufRead + Drop, W: Write>(
+    heap: Global,
+    input: R,
+    out: &mut W,
+) -> Result<(), Fault>
+    ensures { (r : _) × SaidBy (R.remaining input) r × PlaysRead r (W.contents out.old) (W.contents out.new) result }
+{
+    let script = read_script(heap, input)?;
+    let told = answer(heap, &script);
+    print_answers(out, script, told)
+}
+
+fn run(rt: &HostRuntime) -> Result<(), Fault> {
+    let input = open_input(rt)?;
+    let mut out = open_output(rt)?;
+    play_script(rt.alloc(), input, &mut out)
 }
 
 fn main(rt: HostRuntime) -> ExitCode {
-    exit_code(&rt, play_script(&rt))
+    exit_code(&rt, run(&rt))
 }

@@ -2,7 +2,7 @@
 use Rattle.std.specs.Prelude.{ℕ, List, [], ◌∷◌, ◌++◌, codes, decimal}
 use Rattle.world.specs.declared.Ask.{Ask}
 use Rattle.world.specs.declared.Ask.TheVariants.{New, Get, Set, Read, Write, Copy, Clear, Same, Sizes, Collect}
-use Rattle.world.specs.declared.Told.{Told}
+use Rattle.world.specs.Script.{Answer}
 use Rattle.script.specs.declared.error.LineError.{LineError}
 use Rattle.script.specs.declared.error.LineError.TheVariants.{UnknownCall, TooFewNumbers, TooManyNumbers, NotANumber, IndexTooLarge, ValueTooLarge, WordsTooLarge}
 
@@ -38,8 +38,8 @@ spaced (n ∷ ns) = 32 ∷ decimal n ++ spaced ns
 abbrev pub call_text : Ask → List ℕ
 call_text q = name q ++ spaced (numbers q)
 
-abbrev pub answer_text : Told → List ℕ
-answer_text t = decimal t.code ++ spaced (t.val ∷ [])
+abbrev pub answer_text : Answer → List ℕ
+answer_text a = decimal a.code ++ spaced (a.val ∷ [])
 
 -- what was expected in place of a line that is refused
 abbrev pub error_text : LineError → List ℕ

@@ -1,5 +1,6 @@
 // Calls and answers as text.
 ghost use Rattle.std.specs.Prelude.{Some};
+ghost use Rattle.world.specs.Refusals.{answer_of};
 ghost use Rattle.script.specs.Text.{call_text, answer_text};
 
 use std::fmt;
@@ -33,7 +34,7 @@ impl fmt::Display for CallText {
 }
 
 impl fmt::Display for AnswerText {
-    ghost output = { λ t. Some (answer_text t.0) };
+    ghost output = { λ t. Some (answer_text (answer_of t.0)) };
 
     fn fmt<W: fmt::Write>(&self, f: &mut fmt::Formatter<W>) -> fmt::Result {
         let code = self.0.code;

@@ -2,7 +2,7 @@
 #![tactic(auto)]
 
 use bench::{Game, Kind, Tally};
-use driver::{Fault, Script, exit_code, read_script};
+use driver::{Fault, Script, exit_code, open_input, open_output, read_script};
 use std::io::{BufWriter, Stdout, Write};
 use std::process::ExitCode;
 use std::{env, fmt, io};
@@ -82,24 +82,29 @@ fn print_summary(out: &mut BufWriter<Stdout>, calls: &[Ask], touches: &[u64]) ->
     print_tally(out, &"All", Tally::of(touches))
 }
 
-fn print(rt: &HostRuntime, summary: bool, calls: &[Ask], touches: &[u64]) -> io::Result<()> {
-    let mut out = BufWriter::new(rt.alloc(), rt.stdout())?;
-    print_touches(&mut out, touches)?;
+fn print(
+    out: &mut BufWriter<Stdout>,
+    summary: bool,
+    calls: &[Ask],
+    touches: &[u64],
+) -> io::Result<()> {
+    print_touches(out, touches)?;
     if summary {
-        print_summary(&mut out, calls, touches)?;
+        print_summary(out, calls, touches)?;
     }
     out.flush()
 }
 
 fn count_script(rt: &HostRuntime, summary: bool) -> Result<(), Fault> {
-    let Script { size, calls, end } = read_script(rt)?;
+    let Script { size, calls, end } = read_script(rt.alloc(), open_input(rt)?)?;
     let game = Game {
         words: size.words,
         slots: size.slots,
         calls: calls.as_slice(),
     };
     let touches = game.touches(rt.alloc()).map_err(|_| Fault::NoMemory(1))?;
-    print(rt, summary, game.calls, touches.as_slice()).map_err(Fault::Unwritten)?;
+    let mut out = open_output(rt)?;
+    print(&mut out, summary, game.calls, touches.as_slice()).map_err(Fault::Unwritten)?;
     end
 }
 
