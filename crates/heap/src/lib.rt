@@ -4,5 +4,5 @@
 mod calling;
 mod playing;
 
-pub use calling::{call, clean, create};
+pub use calling::call;
 pub use playing::play;
