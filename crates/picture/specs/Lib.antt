@@ -2,3 +2,5 @@
 pub mod Spots
 pub mod Puts
 pub mod Played
+pub mod Grid
+pub mod Texts

@@ -1,0 +1,149 @@
+// Plays a script on the memory manager up to one of its calls, and prints a picture of the heap then; with --collected after a collection, too.
+#![tactic(auto)]
+
+ghost use Rattle.std.specs.Prelude.{◌≡◌, ◌++◌, IfOk, MatchResult, take};
+ghost use Rattle.picture.specs.Played.{Shows};
+ghost use Rattle.draw.specs.Wanted.{Unlooked, collection};
+
+use bench::Game;
+use driver::{Fault, Script, exit_code, read_script};
+use picture::{Picture, Spot, Unseen, spots_after};
+use script::HeapSize;
+use std::alloc::{AllocError, Global};
+use std::io::{BufWriter, Write};
+use std::process::ExitCode;
+use std::{env, fmt, io};
+use world::Ask;
+
+// Which heap is drawn: after how many calls, and whether after a collection, too. It is the title as well.
+#[derive(Clone, Copy)]
+struct Wanted {
+    calls: usize,
+    collected: bool,
+}
+
+#[derive(Drop)]
+enum Failure {
+    Usage,
+    // the arguments cannot be read
+    Unread(io::Error),
+    Script(Fault),
+    // the script has no more calls than these
+    TooFewCalls(usize),
+    TooFewWords(HeapSize),
+    Unwritten(io::Error),
+}
+
+impl From<Fault> for Failure {
+    fn from(fault: Fault) -> Failure {
+        Failure::Script(fault)
+    }
+}
+
+// Written by hand: draw stands on std alone.
+impl fmt::Display for Failure {
+    fn fmt<W: fmt::Write>(&self, f: &mut fmt::Formatter<W>) -> fmt::Result {
+        match self {
+            Failure::Usage => write!(
+                f,
+                "expected the number of a call, and --collected or nothing"
+            ),
+            Failure::Unread(why) => write!(f, "the arguments cannot be read: {why}"),
+            Failure::Script(fault) => write!(f, "{fault}"),
+            Failure::TooFewCalls(calls) => write!(f, "the script has no more than {calls} calls"),
+            Failure::TooFewWords(HeapSize { words, slots }) => {
+                write!(f, "no heap: {words} words are too few for {slots} slots")
+            }
+            Failure::Unwritten(why) => write!(f, "the picture cannot be written: {why}"),
+        }
+    }
+}
+
+impl fmt::Display for Wanted {
+    fn fmt<W: fmt::Write>(&self, f: &mut fmt::Formatter<W>) -> fmt::Result {
+        let calls = self.calls;
+        match calls {
+            0 => write!(f, "The heap before the first call")?,
+            _ => write!(f, "The heap after call {calls}")?,
+        }
+        if self.collected {
+            write!(f, ", after a collection")?;
+        }
+        Ok(())
+    }
+}
+
+impl Wanted {
+    // CALL [--collected]
+    fn read(rt: &HostRuntime) -> Result<Wanted, Failure> {
+        let mut args = env::args(rt).map_err(Failure::Unread)?;
+        let _ = args.next();
+        let calls = args
+            .next()
+            .and_then(|word| word.as_str().parse::<usize>().ok())
+            .ok_or(Failure::Usage)?;
+        let collected = match args.next() {
+            None => false,
+            Some(word) if word.as_str() == "--collected" => true,
+            Some(_) => return Err(Failure::Usage),
+        };
+        if args.next().is_some() {
+            return Err(Failure::Usage);
+        }
+        Ok(Wanted { calls, collected })
+    }
+
+    // Of all calls those that are played.
+    fn choose(self, mut calls: Vec<Ask>) -> Result<Vec<Ask>, AllocError>
+        ensures { IfOk result (λ chosen. chosen.items ≡ take self.calls calls.items ++ collection self.collected) }
+    {
+        calls.truncate(self.calls);
+        if self.collected {
+            calls.push(Ask::Collect)?;
+        }
+        Ok(calls)
+    }
+}
+
+// What is drawn.
+fn look(heap: Global, size: HeapSize, calls: &[Ask]) -> Result<Vec<Spot>, Failure>
+    ensures { MatchResult result (λ v. Shows size.words size.slots calls.now v.items) (λ e. Unlooked size e) }
+{
+    let game = Game {
+        words: size.words,
+        slots: size.slots,
+        calls,
+    };
+    spots_after(&game, heap).map_err(|unseen| match unseen {
+        Unseen::TooFewWords => Failure::TooFewWords(size),
+        Unseen::NoMemory => Failure::Script(Fault::NoMemory(1)),
+    })
+}
+
+fn print(rt: &HostRuntime, title: Wanted, spots: &[Spot]) -> io::Result<()> {
+    let mut out = BufWriter::new(rt.alloc(), rt.stdout())?;
+    let picture = Picture { title, spots };
+    writeln!(out, "{picture}")?;
+    out.flush()
+}
+
+// A fault behind the wanted call is said when the picture is printed.
+fn run(rt: &HostRuntime) -> Result<(), Failure> {
+    let wanted = Wanted::read(rt)?;
+    let Script { size, calls, end } = read_script(rt)?;
+    let read = calls.len();
+    if read < wanted.calls {
+        end?;
+        return Err(Failure::TooFewCalls(read));
+    }
+    let heap = rt.alloc();
+    let calls = wanted.choose(calls).map_err(|_| Fault::NoMemory(1))?;
+    let spots = look(heap, size, calls.as_slice())?;
+    print(rt, wanted, spots.as_slice()).map_err(Failure::Unwritten)?;
+    end?;
+    Ok(())
+}
+
+fn main(rt: HostRuntime) -> ExitCode {
+    exit_code(&rt, run(&rt))
+}
