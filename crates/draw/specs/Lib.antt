@@ -1,2 +1,2 @@
--- Which calls are played for a picture, and what is drawn.
-pub mod Wanted
+-- Why nothing is drawn.
+pub mod Undrawn

@@ -1,15 +1,15 @@
 // Plays a script on the memory manager up to one of its calls, and prints a picture of the heap then; with --collected after a collection, too.
 #![tactic(auto)]
 
-ghost use Rattle.std.specs.Prelude.{◌≡◌, ◌++◌, IfOk, MatchResult, take};
+ghost use Rattle.std.specs.Prelude.{MatchResult};
 ghost use Rattle.picture.specs.Played.{Shows};
-ghost use Rattle.draw.specs.Wanted.{Unlooked, collection};
+ghost use Rattle.draw.specs.Undrawn.{Undrawn};
 
 use bench::Game;
 use driver::{Fault, Script, exit_code, read_script};
-use picture::{Picture, Spot, Unseen, spots_after};
+use picture::{Moment, Picture, Spot, Unseen};
 use script::HeapSize;
-use std::alloc::{AllocError, Global};
+use std::alloc::Global;
 use std::io::{BufWriter, Write};
 use std::process::ExitCode;
 use std::{env, fmt, io};
@@ -63,11 +63,11 @@ impl fmt::Display for Wanted {
     fn fmt<W: fmt::Write>(&self, f: &mut fmt::Formatter<W>) -> fmt::Result {
         let calls = self.calls;
         match calls {
-            0 => write!(f, "The heap before the first call")?,
+            0 => write!(f, "The heap before all calls")?,
             _ => write!(f, "The heap after call {calls}")?,
         }
         if self.collected {
-            write!(f, ", after a collection")?;
+            write!(f, " and a collection")?;
         }
         Ok(())
     }
@@ -92,32 +92,23 @@ impl Wanted {
         }
         Ok(Wanted { calls, collected })
     }
-
-    // Of all calls those that are played.
-    fn choose(self, mut calls: Vec<Ask>) -> Result<Vec<Ask>, AllocError>
-        ensures { IfOk result (λ chosen. chosen.items ≡ take self.calls calls.items ++ collection self.collected) }
-    {
-        calls.truncate(self.calls);
-        if self.collected {
-            calls.push(Ask::Collect)?;
-        }
-        Ok(calls)
-    }
 }
 
 // What is drawn.
-fn look(heap: Global, size: HeapSize, calls: &[Ask]) -> Result<Vec<Spot>, Failure>
-    ensures { MatchResult result (λ v. Shows size.words size.slots calls.now v.items) (λ e. Unlooked size e) }
+fn look(heap: Global, size: HeapSize, calls: &[Ask], collected: bool) -> Result<Vec<Spot>, Failure>
+    ensures { MatchResult result (λ v. Shows size.words size.slots calls.now collected v.items) (λ e. Undrawn size e) }
 {
     let game = Game {
         words: size.words,
         slots: size.slots,
         calls,
     };
-    spots_after(&game, heap).map_err(|unseen| match unseen {
-        Unseen::TooFewWords => Failure::TooFewWords(size),
-        Unseen::NoMemory => Failure::Script(Fault::NoMemory(1)),
-    })
+    Moment { game, collected }
+        .spots(heap)
+        .map_err(|unseen| match unseen {
+            Unseen::TooFewWords => Failure::TooFewWords(size),
+            Unseen::NoMemory => Failure::Script(Fault::NoMemory(1)),
+        })
 }
 
 fn print(rt: &HostRuntime, title: Wanted, spots: &[Spot]) -> io::Result<()> {
@@ -131,14 +122,11 @@ fn print(rt: &HostRuntime, title: Wanted, spots: &[Spot]) -> io::Result<()> {
 fn run(rt: &HostRuntime) -> Result<(), Failure> {
     let wanted = Wanted::read(rt)?;
     let Script { size, calls, end } = read_script(rt)?;
-    let read = calls.len();
-    if read < wanted.calls {
+    let Some(calls) = calls.as_slice().get(..wanted.calls) else {
         end?;
-        return Err(Failure::TooFewCalls(read));
-    }
-    let heap = rt.alloc();
-    let calls = wanted.choose(calls).map_err(|_| Fault::NoMemory(1))?;
-    let spots = look(heap, size, calls.as_slice())?;
+        return Err(Failure::TooFewCalls(calls.len()));
+    };
+    let spots = look(rt.alloc(), size, calls, wanted.collected)?;
     print(rt, wanted, spots.as_slice()).map_err(Failure::Unwritten)?;
     end?;
     Ok(())

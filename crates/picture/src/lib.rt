@@ -8,6 +8,6 @@ mod survey;
 mod svg;
 
 pub use grid::{Arrow, Point, corner, height};
-pub use playing::{Unseen, spots_after};
+pub use playing::{Moment, Unseen};
 pub use spot::{Part, Spot};
 pub use svg::{Counts, Picture};

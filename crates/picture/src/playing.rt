@@ -1,15 +1,18 @@
 // A script's calls on a manager over words of its own, and what then stands at each word.
-ghost use Rattle.std.specs.Prelude.{◌≡◌, ◌+◌, ◌<◌, MatchResult, vec_items};
+ghost use Rattle.std.specs.Prelude.{◌≡◌, ◌*◌, length, MatchResult};
+ghost use Rattle.store.specs.Frame.{Frame, IsAmid, TouchesAtMost};
 ghost use Rattle.store.specs.Ready.{Ready};
-ghost use Rattle.picture.specs.Played.{Plays, Shows, Unshown};
+ghost use Rattle.picture.specs.Played.{Plays, Shows, Sweeps, Unshown};
 
 use crate::spot::Spot;
 use crate::survey::survey;
 use bench::Game;
+use collector::collect;
 use heap::call;
 use std::alloc::{AllocError, Global};
 use std::fmt;
 use store::{Manager, fits, start};
+use words::Words;
 use words::lent::Lent;
 use world::Ask;
 
@@ -45,23 +48,45 @@ fn play_on(calls: &[Ask], m: &mut Manager<Lent<'_>>)
     m.words.count = 0;
 }
 
-// What stands at each word of a heap behind the manager's own, after a script's calls.
-pub fn spots_after(game: &Game<'_>, heap: Global) -> Result<Vec<Spot>, Unseen>
-    ensures { MatchResult result (λ v. Shows game.now.words game.now.slots game.now.calls.now v.items) (λ e. Unshown game.now.words game.now.slots e) }
+// A collection, if one is wanted.
+fn sweep<W: Words>(m: &mut Manager<W>, wanted: bool)
+    requires { IsAmid W.Words m.old }
+    ensures sweeps { Sweeps wanted m.old.slots (W.Words.row m.old.words) (W.Words.row m.new.words) }
+    ensures frame { Frame W.Words m.old m.new }
+    ensures touches { TouchesAtMost (8 * length (W.Words.row m.old.words)) W.Words m.old m.new }
 {
-    let mut words = game.rubbish(heap)?;
-    let mut m = Manager {
-        words: Lent {
-            words: words.as_mut_slice(),
-            count: 0,
-        },
-        slots: game.slots,
-    };
-    if !fits(&m.words, m.slots) {
-        return Err(Unseen::TooFewWords);
+    if wanted {
+        collect(m);
     }
-    start(&mut m);
-    play_on(game.calls, &mut m);
-    let spots = survey(&mut m, heap)?;
-    Ok(spots)
+}
+
+// When all calls of a game are played, and before or after a collection made then.
+#[derive(Clone, Copy)]
+pub struct Moment<'a> {
+    pub game: Game<'a>,
+    pub collected: bool,
+}
+
+impl Moment<'_> {
+    // What stands at each word of the heap then, behind the manager's own.
+    pub fn spots(&self, heap: Global) -> Result<Vec<Spot>, Unseen>
+        ensures { MatchResult result (λ v. Shows self.now.game.words self.now.game.slots self.now.game.calls.now self.now.collected v.items) (λ e. Unshown self.now.game.words self.now.game.slots e) }
+    {
+        let mut words = self.game.rubbish(heap)?;
+        let mut m = Manager {
+            words: Lent {
+                words: words.as_mut_slice(),
+                count: 0,
+            },
+            slots: self.game.slots,
+        };
+        if !fits(&m.words, m.slots) {
+            return Err(Unseen::TooFewWords);
+        }
+        start(&mut m);
+        play_on(self.game.calls, &mut m);
+        sweep(&mut m, self.collected);
+        let spots = survey(&mut m, heap)?;
+        Ok(spots)
+    }
 }

@@ -4,7 +4,6 @@ ghost use Rattle.picture.specs.Spots.{spot_of};
 ghost use Rattle.picture.specs.Texts.{class_of, number_of, target_of};
 
 use store::OWN;
-
 use words::names::Addr;
 
 // A word of an object.

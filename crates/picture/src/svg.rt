@@ -136,7 +136,8 @@ impl fmt::Display for Point {
 // How far below a box's upper edge its text stands.
 pub const BASE: u128 = 16;
 
-const STYLE: &str = "text{font:11px monospace;text-anchor:middle;fill:#1f2328}.title,.legend text{font-family:sans-serif;text-anchor:start}.title{font-size:14px}.address{text-anchor:end;fill:#57606a}rect{stroke:#fff;stroke-width:1}.back{fill:#fff;stroke:none}.slot{fill:#f5d65b}.reached.header{fill:#0969da}.reached.second{fill:#54aeff}.reached.place{fill:#a5d6ff}.reached.word{fill:#ddf4ff}.dead.header{fill:#6e7781}.dead.second{fill:#a4acb5}.dead.place{fill:#c8ced5}.dead.word{fill:#e6e9ed}.free{fill:#fff;stroke:#c8ced5;stroke-dasharray:2 2}.arrows path{fill:none;stroke-width:1.5;opacity:.75}.arrows .slot{stroke:#9a6700;marker-end:url(#slot)}.arrows .reached{stroke:#0a3069;marker-end:url(#reached)}.arrows .dead{stroke:#6e7781;stroke-dasharray:4 3;marker-end:url(#dead)}#slot{fill:#9a6700}#reached{fill:#0a3069}#dead{fill:#6e7781}";
+const STYLE: &str =
+    "text{font:11px monospace;text-anchor:middle;fill:#1f2328}.title,.legend text{font-family:sans-serif;text-anchor:start}.title{font-size:14px}.address{text-anchor:end;fill:#57606a}rect{stroke:#fff;stroke-width:1}.back{fill:#fff;stroke:none}rect.slot{fill:#f5d65b}rect.reached.header{fill:#0969da}rect.reached.second{fill:#54aeff}rect.reached.place{fill:#a5d6ff}rect.reached.word{fill:#ddf4ff}rect.dead.header{fill:#6e7781}rect.dead.second{fill:#a4acb5}rect.dead.place{fill:#c8ced5}rect.dead.word{fill:#e6e9ed}rect.free{fill:#fff;stroke:#c8ced5;stroke-dasharray:2 2}.arrows path{fill:none;stroke-width:1.5;opacity:.75}.arrows .slot{stroke:#9a6700;marker-end:url(#slot)}.arrows .reached{stroke:#0a3069;marker-end:url(#reached)}.arrows .dead{stroke:#6e7781;stroke-dasharray:4 3;marker-end:url(#dead)}#slot{fill:#9a6700}#reached{fill:#0a3069}#dead{fill:#6e7781}";
 
 // The heads of the three kinds of arrows.
 const HEADS: [&str; 3] = ["slot", "reached", "dead"];
@@ -151,16 +152,66 @@ struct Sample {
 }
 
 const LEGEND: [Sample; 10] = [
-    Sample { class: "reached header", x: 60, y: 58, means: "header of a reached object" },
-    Sample { class: "reached second", x: 270, y: 58, means: "second word" },
-    Sample { class: "reached place", x: 400, y: 58, means: "place" },
-    Sample { class: "reached word", x: 500, y: 58, means: "word" },
-    Sample { class: "slot", x: 600, y: 58, means: "slot" },
-    Sample { class: "dead header", x: 60, y: 78, means: "header of a dead object" },
-    Sample { class: "dead second", x: 270, y: 78, means: "second word" },
-    Sample { class: "dead place", x: 400, y: 78, means: "place" },
-    Sample { class: "dead word", x: 500, y: 78, means: "word" },
-    Sample { class: "free", x: 600, y: 78, means: "free word" },
+    Sample {
+        class: "reached header",
+        x: 60,
+        y: 58,
+        means: "header of a reached object",
+    },
+    Sample {
+        class: "reached second",
+        x: 270,
+        y: 58,
+        means: "second word",
+    },
+    Sample {
+        class: "reached place",
+        x: 400,
+        y: 58,
+        means: "place",
+    },
+    Sample {
+        class: "reached word",
+        x: 500,
+        y: 58,
+        means: "word",
+    },
+    Sample {
+        class: "slot",
+        x: 600,
+        y: 58,
+        means: "slot",
+    },
+    Sample {
+        class: "dead header",
+        x: 60,
+        y: 78,
+        means: "header of a dead object",
+    },
+    Sample {
+        class: "dead second",
+        x: 270,
+        y: 78,
+        means: "second word",
+    },
+    Sample {
+        class: "dead place",
+        x: 400,
+        y: 78,
+        means: "place",
+    },
+    Sample {
+        class: "dead word",
+        x: 500,
+        y: 78,
+        means: "word",
+    },
+    Sample {
+        class: "free",
+        x: 600,
+        y: 78,
+        means: "free word",
+    },
 ];
 
 fn write_heads<W: fmt::Write>(f: &mut fmt::Formatter<W>) -> fmt::Result {
@@ -199,7 +250,10 @@ fn write_boxes<W: fmt::Write>(f: &mut fmt::Formatter<W>, spots: &[Spot]) -> fmt:
             write_address(f, at)?;
         }
         let class = spot.class();
-        let rect = Rect { at: Addr(at), class };
+        let rect = Rect {
+            at: Addr(at),
+            class,
+        };
         writeln!(f, "{rect}")?;
         if let Some(number) = spot.number(Addr(at)).map(Short) {
             let label = Label {
