@@ -12,5 +12,5 @@ Undrawn size (TooFewWords h) = (h ≡ size) × (size.words < base size.slots)
 Undrawn size (Script fault) = fault ≡ NoMemory 1
 Undrawn size Usage = ⊥
 Undrawn size (Unread e) = ⊥
-Undrawn size (TooFewCalls n) = ⊥
+Undrawn size (TooFewCalls n k) = ⊥
 Undrawn size (Unwritten e) = ⊥

@@ -28,8 +28,8 @@ enum Failure {
     // the arguments cannot be read
     Unread(io::Error),
     Script(Fault),
-    // the script has no more calls than these
-    TooFewCalls(usize),
+    // that call is wanted, and the script has so many
+    TooFewCalls(usize, usize),
     TooFewWords(HeapSize),
     Unwritten(io::Error),
 }
@@ -50,7 +50,9 @@ impl fmt::Display for Failure {
             ),
             Failure::Unread(why) => write!(f, "the arguments cannot be read: {why}"),
             Failure::Script(fault) => write!(f, "{fault}"),
-            Failure::TooFewCalls(calls) => write!(f, "the script has no more than {calls} calls"),
+            Failure::TooFewCalls(wanted, calls) => {
+                write!(f, "the script has no call {wanted}, only {calls}")
+            }
             Failure::TooFewWords(HeapSize { words, slots }) => {
                 write!(f, "no heap: {words} words are too few for {slots} slots")
             }
@@ -73,6 +75,14 @@ impl fmt::Display for Wanted {
     }
 }
 
+// The standard parse takes a sign, which no number of a script has.
+fn call_number(word: &str) -> Option<usize> {
+    if word.starts_with('+') {
+        return None;
+    }
+    word.parse::<usize>().ok()
+}
+
 impl Wanted {
     // CALL [--collected]
     fn read(rt: &HostRuntime) -> Result<Wanted, Failure> {
@@ -80,7 +90,7 @@ impl Wanted {
         let _ = args.next();
         let calls = args
             .next()
-            .and_then(|word| word.as_str().parse::<usize>().ok())
+            .and_then(|word| call_number(word.as_str()))
             .ok_or(Failure::Usage)?;
         let collected = match args.next() {
             None => false,
@@ -124,7 +134,7 @@ fn run(rt: &HostRuntime) -> Result<(), Failure> {
     let Script { size, calls, end } = read_script(rt)?;
     let Some(calls) = calls.as_slice().get(..wanted.calls) else {
         end?;
-        return Err(Failure::TooFewCalls(calls.len()));
+        return Err(Failure::TooFewCalls(wanted.calls, calls.len()));
     };
     let spots = look(rt.alloc(), size, calls, wanted.collected)?;
     print(rt, wanted, spots.as_slice()).map_err(Failure::Unwritten)?;
