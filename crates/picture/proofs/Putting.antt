@@ -38,8 +38,8 @@ put_both {these = these} {those = those} {old = old} p q = record {
 }
 
 -- one word more of a row
-pub seg_more : (f : ℕ → Spot) (row : List ℕ) (at i : ℕ) → map f (seg row at (i + 1)) ≡ map f (seg row at i) ++ f (get_or row (at + i) 0) ∷ []
-seg_more f row at i = rw add-one (by at i)
+pub seg_more : (f : ℕ → Spot) (row : List ℕ) (at i : ℕ) (x : Spot) → x ≡ f (get_or row (at + i) 0) → map f (seg row at (i + 1)) ≡ map f (seg row at i) ++ x ∷ []
+seg_more f row at i x e = rw (add-one, e) (by at i)
   where
     by : (at i : ℕ) → map f (seg row at (suc i)) ≡ map f (seg row at i) ++ f (get_or row (at + i) 0) ∷ []
     by at zero = let e : at + 0 ≡ at = omega arith in rw e

@@ -10,7 +10,6 @@ use bench::Game;
 use collector::collect;
 use heap::call;
 use std::alloc::{AllocError, Global};
-use std::fmt;
 use store::{Manager, fits, start};
 use words::Words;
 use words::lent::Lent;
