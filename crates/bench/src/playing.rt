@@ -22,7 +22,7 @@ pub struct Game<'a> {
 
 impl Game<'_> {
     // The words that the manager is lent. More than can have addresses are more than there is memory for.
-    pub(crate) fn rubbish(&self, heap: Global) -> Result<Vec<u64>, AllocError>
+    pub fn rubbish(&self, heap: Global) -> Result<Vec<u64>, AllocError>
         ensures { IfOk result (λ words. (vec_len words ≡ self.now.words) × (self.now.words < 2 ^ 56)) }
     {
         if self.words >= ADDRESSES as u64 {

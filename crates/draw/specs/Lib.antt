@@ -1,0 +1,2 @@
+-- Why nothing is drawn.
+pub mod Undrawn

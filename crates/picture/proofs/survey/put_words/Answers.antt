@@ -1,0 +1,13 @@
+-- One word more is put.
+use Rattle.std.proofs.Common.{ℕ, ◌+◌, List, get_or, ap, ◌∙◌}
+use Rattle.picture.specs.Spots.{word_of}
+use Rattle.picture.proofs.Putting.{put_more, seg_more}
+use Rattle.picture.proofs.survey.put_words.Goals as goal
+
+pub loop-i-preserved : goal.loop-i-preserved
+loop-i-preserved g c =
+    let i = c.loop-i.invariant in
+    let row = g.W.Words.row c.args.m.now.words in
+    let at = c.args.object.at.0 + 2 + c.args.object.header.places in
+    let v = c.word-word.ensures.value ∙ ap (λ (r : List ℕ). get_or r (at + c.loop-i.i) 0) i.looks.same in
+    put_more c.of.result _ c.push.new.self.items i c.in_ok-push.ensures.items (seg_more (word_of c.args.reached) row at c.loop-i.i c.of.result (rw v at c.of.ensures)) c.word-word.ensures.looks c.word-word.ensures.one
