@@ -36,7 +36,10 @@ fn up_to_a_refused_line(rt: HostRuntime) -> Result<(), Fail> {
     let Err(why) = played else {
         return Err(Fail::from("a line too short was taken"));
     };
-    assert_eq!(rt; why.to_string(rt.alloc())?.as_str(), "line 3: expected one more number");
+    assert_eq!(rt;
+        why.to_string(rt.alloc())?.as_str(),
+        "line 3: expected one more number"
+    );
     assert_eq!(rt; out.as_slice(), "1 0\n".as_bytes());
     Ok(())
 }
