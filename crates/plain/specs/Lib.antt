@@ -1,1 +1,2 @@
--- Nothing is specified here: the program is thin.
+-- What the first line of a script makes; all else of it is in other crates.
+pub mod First

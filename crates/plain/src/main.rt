@@ -1,6 +1,8 @@
 // Plays a script on the plain world: the answers on standard output, a fault on standard error with its line.
 #![tactic(auto)]
 
+ghost use Rattle.plain.specs.First.{Begins};
+
 use driver::{Fault, Machine, exit_code, open_input, open_output, play_line};
 use script::{HeapSize, is_passed_over, read_heap_size};
 use std::alloc::{AllocError, Global};
@@ -22,7 +24,9 @@ impl Machine for Plain {
 }
 
 // The world that the first line asks for.
-fn begin(heap: Global, number: usize, line: &str) -> Result<Plain, Fault> {
+fn begin(heap: Global, number: usize, line: &str) -> Result<Plain, Fault>
+    ensures { Begins line.now number result }
+{
     let HeapSize { words, slots } = read_heap_size(line).map_err(|why| Fault::Line(number, why))?;
     let room = room_for(words as usize, slots);
     let world = PlainWorld::new(heap, room, slots).map_err(|_| Fault::NoMemory(number))?;
