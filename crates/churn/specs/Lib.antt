@@ -1,1 +1,2 @@
--- Nothing is specified here: the program is thin.
+-- What the held objects are made of; the rest of the program is thin.
+pub mod Held

@@ -1,7 +1,8 @@
 // Makes 100,000 small objects beside held ones, each dropped at once, and prints how many words that touches.
 #![tactic(auto)]
 
-ghost use Rattle.std.specs.Prelude.{◌≡◌, ◌+◌, ◌<◌, ◌≤◌, count_by, nat_lt};
+ghost use Rattle.std.specs.Prelude.{◌≡◌, ◌+◌, ◌<◌, ◌≤◌, ◌++◌, count_by, nat_lt, IfOk};
+ghost use Rattle.churn.specs.Held.{held_calls, places_for};
 
 use anyhow::anyhow;
 use bench::{Game, Random, Tally};
@@ -82,7 +83,8 @@ impl fmt::Display for Load {
 
 // How many places an object has besides its first, of so many places and words in all.
 fn places_of(mostly: Mostly, rest: u16) -> u16
-    ensures { result ≤ rest }
+    ensures value { result ≡ places_for mostly rest }
+    ensures within { result ≤ rest }
 {
     match mostly {
         Mostly::Places => rest - rest / 8,
@@ -92,7 +94,9 @@ fn places_of(mostly: Mostly, rest: u16) -> u16
 }
 
 // An object of so many words: its first place holds the one before it, the others the first of all and that by turns.
-fn hold_one(calls: &mut Vec<Ask>, mostly: Mostly, weight: u16) -> Result<(), AllocError> {
+fn hold_one(calls: &mut Vec<Ask>, mostly: Mostly, weight: u16) -> Result<(), AllocError>
+    ensures { IfOk result (λ _. calls.new.items ≡ calls.old.items ++ held_calls mostly weight) }
+{
     let rest = weight.saturating_sub(3);
     let more = places_of(mostly, rest);
     calls.push(Ask::New(MADE, more.saturating_add(1), rest - more))?;
