@@ -1,5 +1,5 @@
 -- Which of the ten calls a call is.
-use Rattle.std.specs.Prelude.{ℕ}
+use Rattle.std.specs.Prelude.{ℕ, List, codes}
 use Rattle.world.specs.declared.Ask.{Ask}
 use Rattle.world.specs.declared.Ask.TheVariants as ask
 use Rattle.bench.specs.declared.kind.Kind.{Kind}
@@ -28,3 +28,15 @@ number_of Clear = 6
 number_of Same = 7
 number_of Sizes = 8
 number_of Collect = 9
+
+abbrev pub kind_text : Kind → List ℕ
+kind_text New = codes "New"
+kind_text Get = codes "Get"
+kind_text Set = codes "Set"
+kind_text Read = codes "Read"
+kind_text Write = codes "Write"
+kind_text Copy = codes "Copy"
+kind_text Clear = codes "Clear"
+kind_text Same = codes "Same"
+kind_text Sizes = codes "Sizes"
+kind_text Collect = codes "Collect"

@@ -1,6 +1,6 @@
 // Which of the ten calls a call is.
-ghost use Rattle.std.specs.Prelude.{◌≡◌};
-ghost use Rattle.bench.specs.Kinds.{kind_of, number_of};
+ghost use Rattle.std.specs.Prelude.{◌≡◌, Some};
+ghost use Rattle.bench.specs.Kinds.{kind_of, kind_text, number_of};
 
 use std::fmt;
 use world::Ask;
@@ -64,9 +64,22 @@ impl From<Kind> for usize {
     }
 }
 
-// The name of the variant, which nothing but Debug derives.
+// The name of the variant. Written by hand: of what Debug derives the text is not known.
 impl fmt::Display for Kind {
+    ghost output = { λ kind. Some (kind_text kind) };
+
     fn fmt<W: fmt::Write>(&self, f: &mut fmt::Formatter<W>) -> fmt::Result {
-        write!(f, "{self:?}")
+        match self {
+            Kind::New => write!(f, "New"),
+            Kind::Get => write!(f, "Get"),
+            Kind::Set => write!(f, "Set"),
+            Kind::Read => write!(f, "Read"),
+            Kind::Write => write!(f, "Write"),
+            Kind::Copy => write!(f, "Copy"),
+            Kind::Clear => write!(f, "Clear"),
+            Kind::Same => write!(f, "Same"),
+            Kind::Sizes => write!(f, "Sizes"),
+            Kind::Collect => write!(f, "Collect"),
+        }
     }
 }
