@@ -1,3 +1,4 @@
 -- The leaves of the manager: what single words say, as numbers.
 pub mod Header
 pub mod Reference
+pub mod Edges

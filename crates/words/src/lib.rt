@@ -4,6 +4,7 @@
 ghost use Rattle.std.specs.Prelude.{◌≡◌, ℕ, ◌+◌, ◌<◌, List, length, slice_index, slice_set};
 ghost use Rattle.std.specs.Borrow.{GName};
 
+pub mod edges;
 pub mod header;
 pub mod lent;
 pub mod names;
