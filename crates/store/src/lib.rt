@@ -6,9 +6,11 @@ mod cursor;
 mod empty;
 mod manager;
 mod objects;
+mod roots;
 mod slots;
 
 pub use cursor::Objects;
 pub use empty::{fits, none_header, start};
 pub use manager::{ADDRESSES, Manager, OWN, ROOT};
 pub use objects::Object;
+pub use roots::Range;
