@@ -3,7 +3,7 @@
 # A call is a clause of `entry`, or of the function of a family that a clause of `entry` names, with a comment right above it:
 #
 #     -- 1 2 3 4: slot t becomes place i of the object in s
-#     entry (Get t s i) = call "Get" (Slot t ∷ Slot s ∷ Place i ∷ []) 0 (Err Nothing)
+#     entry (Get t s i) = call (codes "Get") (Slot t ∷ Slot s ∷ Place i ∷ []) 0 (Err Nothing)
 import glob
 import os
 import re
@@ -16,7 +16,7 @@ SPECS = os.path.join(ROOT, 'crates', 'mutator', 'specs')
 Call = namedtuple('Call', 'name numbers does codes')
 
 CLAUSE = re.compile(r'(?:^-- (?P<codes>[\d ]+): (?P<does>.*)\n)?^(?P<of>\w+) (?P<pattern>\(.*?\)|\w+) = (?P<body>.*)$', re.M)
-BODY = re.compile(r'call "(\w+)" (?:\[\]|\((.*?) ∷ \[\]\)) ')
+BODY = re.compile(r'call \(codes "(\w+)"\) (?:\[\]|\((.*?) ∷ \[\]\)) ')
 
 
 class Unreadable(Exception):

@@ -94,7 +94,7 @@ pagzimul_told pagzimul_same(uint64_t *words, size_t count, uint64_t slots, uint6
 /* Sizes: the number is 65,536 times the places, and the words, of the object in s. DONE, NO_SLOT, NOTHING. */
 pagzimul_told pagzimul_sizes(uint64_t *words, size_t count, uint64_t slots, uint64_t s);
 
-/* Collect: nothing that the mutator can tell. DONE. */
+/* Collect: what is not reached is taken back; nothing that the mutator can tell. DONE. */
 pagzimul_told pagzimul_collect(uint64_t *words, size_t count, uint64_t slots);
 /* calls: end */
 
