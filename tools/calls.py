@@ -15,7 +15,9 @@ SPECS = os.path.join(ROOT, 'crates', 'mutator', 'specs')
 # A call's name, its numbers as (kind, name), what it does, and the codes that it may answer.
 Call = namedtuple('Call', 'name numbers does codes')
 
-CLAUSE = re.compile(r'(?:^-- (?P<codes>[\d ]+): (?P<does>.*)\n)?^(?P<of>\w+) (?P<pattern>\(.*?\)|\w+) = (?P<body>.*)$', re.M)
+# Comments and bodies may go on in further lines.
+CLAUSE = re.compile(r'(?:^-- (?P<codes>\d[\d ]*): (?P<does>.*(?:\n-- .*)*)\n)?'
+                    r'^(?P<of>\w+) (?P<pattern>\(.*?\)|\w+) =(?P<body>.*(?:\n +\S.*)*)$', re.M)
 BODY = re.compile(r'call \(codes "(\w+)"\) (?:\[\]|\((.*?) ∷ \[\]\)) ')
 
 
@@ -34,9 +36,9 @@ def clauses():
 
 def read(function, found):
     for m in found.get(function, ()):
-        body = BODY.match(m['body'])
+        text = ' '.join(m['body'].split())
+        body, family = BODY.match(text), text.split()[0]
         if not body:
-            family = m['body'].split()[0]
             if family not in found:
                 raise Unreadable(f'{function} {m["pattern"]}: neither a call nor a family of calls')
             yield from read(family, found)
@@ -44,7 +46,7 @@ def read(function, found):
             raise Unreadable(f'{function} {m["pattern"]}: no comment with its codes and what it does is right above it')
         else:
             numbers = [tuple(number.split()) for number in body[2].split(' ∷ ')] if body[2] else []
-            yield Call(body[1], numbers, m['does'], [int(code) for code in m['codes'].split()])
+            yield Call(body[1], numbers, m['does'].replace('\n--', ''), [int(code) for code in m['codes'].split()])
 
 
 # The calls in the order of the table.
