@@ -3,7 +3,7 @@ use Rattle.std.proofs.Common.{◌≡◌, ℕ, Bool, true, false, cond, List, [],
 use Rattle.std.specs.List.{filter, zip}
 use denote.Enum.Bare.{sameb}
 use denote.Enum.Declared.{tag_of}
-use Rattle.world.specs.declared.Ask.{Ask}
+use Rattle.mutator.specs.declared.Ask.{Ask}
 use Rattle.bench.specs.Kinds.{kind_of, number_of}
 use Rattle.bench.specs.Tallies.{and_one, of_kind}
 use Rattle.bench.specs.declared.kind.Kind.{Kind}

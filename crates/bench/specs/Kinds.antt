@@ -1,7 +1,7 @@
 -- Which of the ten calls a call is.
 use Rattle.std.specs.Prelude.{ℕ, List, codes}
-use Rattle.world.specs.declared.Ask.{Ask}
-use Rattle.world.specs.declared.Ask.TheVariants as ask
+use Rattle.mutator.specs.declared.Ask.{Ask}
+use Rattle.mutator.specs.declared.Ask.TheVariants as ask
 use Rattle.bench.specs.declared.kind.Kind.{Kind}
 use Rattle.bench.specs.declared.kind.Kind.TheVariants.{New, Get, Set, Read, Write, Copy, Clear, Same, Sizes, Collect}
 

@@ -1,6 +1,6 @@
 -- Tallies of touches; a count stops at the largest number of 64 bits.
 use Rattle.std.specs.Prelude.{ℕ, ◌+◌, ◌-◌, ◌^◌, min, max, cond, List, [], ◌∷◌, ◌==◌}
-use Rattle.world.specs.declared.Ask.{Ask}
+use Rattle.mutator.specs.declared.Ask.{Ask}
 use Rattle.bench.specs.Kinds.{kind_of, number_of}
 use Rattle.bench.specs.declared.kind.Kind.{Kind}
 use Rattle.bench.specs.declared.tally.Tally.{Tally}

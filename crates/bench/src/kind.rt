@@ -3,7 +3,7 @@ ghost use Rattle.std.specs.Prelude.{◌≡◌, Some};
 ghost use Rattle.bench.specs.Kinds.{kind_of, kind_text, number_of};
 
 use std::fmt;
-use world::Ask;
+use mutator::Ask;
 
 #[derive(Clone, Copy, PartialEq, Eq, Debug)]
 pub enum Kind {

@@ -1,13 +1,13 @@
 // A script that is played on the manager, over words of the program's own.
 ghost use Rattle.std.specs.Prelude.{◌≡◌, ◌<◌, ◌^◌, map, IfOk, vec_len};
 ghost use Rattle.world.specs.World.{blank};
-ghost use Rattle.world.specs.Script.{answers};
-ghost use Rattle.world.specs.Says.{room};
-ghost use Rattle.world.specs.Refusals.{answer_of};
+ghost use Rattle.mutator.specs.Script.{answers};
+ghost use Rattle.world.specs.Room.{room};
+ghost use Rattle.mutator.specs.Refusals.{answer_of};
 
 use std::alloc::{AllocError, Global};
 use store::ADDRESSES;
-use world::{Ask, Told};
+use mutator::{Ask, Told};
 
 // What stands in the words before the manager has them: nothing is said of it.
 const RUBBISH: u64 = 0xaaaa_aaaa_aaaa_aaaa;

@@ -3,7 +3,7 @@ ghost use Rattle.std.specs.Prelude.{◌≡◌, ◌+◌, ◌-◌, ◌*◌, ◌/�
 ghost use Rattle.bench.specs.Tallies.{none, and_one, of_kind};
 
 use crate::kind::Kind;
-use world::Ask;
+use mutator::Ask;
 
 #[derive(Clone, Copy, Default)]
 pub struct Tally {

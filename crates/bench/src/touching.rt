@@ -8,7 +8,7 @@ use heap::call;
 use std::alloc::{AllocError, Global};
 use store::{Manager, fits, start};
 use words::lent::Lent;
-use world::Ask;
+use mutator::Ask;
 
 // On a manager, whatever its world is; as many touches as calls are written. As `heap::play` with its parts, but touches are
 // kept and not answers.

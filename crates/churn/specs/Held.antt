@@ -1,7 +1,7 @@
 -- The calls that make a held object.
 use Rattle.std.specs.Prelude.{ℕ, zero, suc, ◌+◌, ◌-◌, ◌/◌, ◌%◌, cond, List, [], ◌∷◌, ◌++◌, ◌==◌}
-use Rattle.world.specs.declared.Ask.{Ask}
-use Rattle.world.specs.declared.Ask.TheVariants.{New, Set, Copy}
+use Rattle.mutator.specs.declared.Ask.{Ask}
+use Rattle.mutator.specs.declared.Ask.TheVariants.{New, Set, Copy}
 use Rattle.churn.specs.declared.TheConstants.{ROW, FIRST, MADE}
 use Rattle.churn.specs.declared.Mostly.{Mostly}
 use Rattle.churn.specs.declared.Mostly.TheVariants.{Places, Mixed, Words}

@@ -10,7 +10,7 @@ use driver::exit_code;
 use std::alloc::AllocError;
 use std::process::ExitCode;
 use std::{fmt, io};
-use world::{Ask, Told};
+use mutator::{Ask, Told};
 
 const WORDS: u64 = 4000;
 

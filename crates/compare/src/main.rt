@@ -11,7 +11,9 @@ use std::alloc::{AllocError, Global};
 use std::io::{BufWriter, Stdout, Write};
 use std::process::ExitCode;
 use std::{env, fmt, io};
-use world::{Ask, PlainWorld, Told, room_for};
+use mutator::{Ask, Told};
+use reference::PlainWorld;
+use world::room_for;
 
 const SEED: u64 = 1;
 

@@ -13,7 +13,7 @@ use std::alloc::Global;
 use std::io::{BufWriter, Stdout, Write};
 use std::process::ExitCode;
 use std::{env, fmt, io};
-use world::Ask;
+use mutator::Ask;
 
 // Which heap is drawn: after how many calls, and whether after a collection, too. It is the title as well.
 #[derive(Clone, Copy)]

@@ -5,8 +5,8 @@ use Rattle.std.proofs.Math.Seq.{take-suc}
 use Rattle.std.proofs.Math.Numerals.{add-one}
 use Rattle.std.specs.Io.KnownBytes.{Appends, Keeps}
 use Rattle.std.specs.Prelude.{Option, Result, Some, None, Ok, Err, IfOk}
-use Rattle.world.specs.declared.Told.{Told}
-use Rattle.world.specs.Refusals.{answer_of}
+use Rattle.mutator.specs.declared.Told.{Told}
+use Rattle.mutator.specs.Refusals.{answer_of}
 use Rattle.driver.specs.Playing.{line_for, printed}
 
 pub appends_nothing : (a : Option (List ℕ)) → Appends a a []

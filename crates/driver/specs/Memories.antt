@@ -2,11 +2,11 @@
 use Rattle.std.specs.Prelude.{◌≡◌, ◌⊎◌, ℕ, List, Ok, Err, Some, None, Option, Result, MatchResult}
 use Rattle.std.specs.declared.alloc.AllocError.{AllocError}
 use Rattle.std.specs.Io.KnownBytes.{Appends, Keeps}
-use Rattle.world.specs.declared.Ask.{Ask}
-use Rattle.world.specs.declared.Told.{Told}
+use Rattle.mutator.specs.declared.Ask.{Ask}
+use Rattle.mutator.specs.declared.Told.{Told}
 use Rattle.world.specs.World.{World}
-use Rattle.world.specs.Script.{Answer, answer}
-use Rattle.world.specs.Refusals.{answer_of}
+use Rattle.mutator.specs.Script.{Answer, answer}
+use Rattle.mutator.specs.Refusals.{answer_of}
 use Rattle.script.specs.declared.error.LineError.{LineError}
 use Rattle.script.specs.Reading.{line_of}
 use Rattle.driver.specs.declared.fault.Fault.{Fault}

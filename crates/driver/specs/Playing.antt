@@ -3,11 +3,11 @@ use Rattle.std.specs.Prelude.{◌≡◌, ◌⊎◌, ℕ, List, [], ◌∷◌, �
 use Rattle.std.specs.Io.KnownBytes.{Appends, Keeps}
 use Rattle.std.specs.declared.alloc.AllocError.{AllocError}
 use Rattle.std.specs.declared.alloc.Global.{Global}
-use Rattle.world.specs.declared.Told.{Told}
+use Rattle.mutator.specs.declared.Told.{Told}
 use Rattle.world.specs.World.{blank}
-use Rattle.world.specs.Script.{Answer, answers}
-use Rattle.world.specs.Says.{room}
-use Rattle.world.specs.Refusals.{answer_of}
+use Rattle.mutator.specs.Script.{Answer, answers}
+use Rattle.world.specs.Room.{room}
+use Rattle.mutator.specs.Refusals.{answer_of}
 use Rattle.script.specs.Text.{answer_text}
 use Rattle.driver.specs.declared.fault.Fault.{Fault}
 use Rattle.driver.specs.declared.fault.Fault.TheVariants.{Line, Unread, NoMemory, NoFirstLine, Unwritten}

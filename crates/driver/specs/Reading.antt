@@ -3,7 +3,7 @@ use Rattle.std.specs.Prelude.{◌≡◌, ℕ, zero, suc, ◌+◌, ◌<◌, cond,
 use Rattle.std.specs.Result.{result_and}
 use Rattle.std.specs.Io.BufRead.{first_line, drop_through}
 use Rattle.std.specs.declared.alloc.Global.{Global}
-use Rattle.world.specs.declared.Ask.{Ask}
+use Rattle.mutator.specs.declared.Ask.{Ask}
 use Rattle.script.specs.declared.error.LineError.{LineError}
 use Rattle.script.specs.declared.read.HeapSize.{HeapSize}
 use Rattle.script.specs.Reading.{bind, heap_size_of, passed_over, line_of}

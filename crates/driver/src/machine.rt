@@ -2,7 +2,7 @@
 ghost use Rattle.driver.specs.Memories.{Memory, Answers};
 
 use std::alloc::AllocError;
-use world::{Ask, Told};
+use mutator::{Ask, Told};
 
 // A memory with its slots.
 pub trait Machine {

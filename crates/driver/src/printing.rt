@@ -3,7 +3,7 @@ ghost use Rattle.std.specs.Prelude.{◌≡◌, cond, map, IfErr, IfOk};
 ghost use Rattle.std.specs.Io.KnownBytes.{Appends};
 ghost use Rattle.std.specs.Process.{exit_status};
 ghost use Rattle.std.specs.Result.{is_ok};
-ghost use Rattle.world.specs.Refusals.{answer_of};
+ghost use Rattle.mutator.specs.Refusals.{answer_of};
 ghost use Rattle.driver.specs.declared.fault.Fault.TheVariants.{NoMemory};
 ghost use Rattle.driver.specs.Playing.{Answered, Ends, printed};
 
@@ -14,7 +14,7 @@ use std::alloc::AllocError;
 use std::io::{BufWriter, Stdout, Write};
 use std::process::ExitCode;
 use std::{fmt, io};
-use world::Told;
+use mutator::Told;
 
 // Standard output, to be written in large pieces.
 pub fn open_output(rt: &HostRuntime) -> Result<BufWriter<Stdout>, Fault>

@@ -7,7 +7,7 @@ use crate::fault::Fault;
 use script::{HeapSize, LineError, is_passed_over, read_heap_size, read_line};
 use std::alloc::Global;
 use std::io::{BufRead, BufReader, Stdin};
-use world::Ask;
+use mutator::Ask;
 
 // What was read of a script: its first line, the calls of the lines that were taken, and how that ended.
 #[derive(Drop)]

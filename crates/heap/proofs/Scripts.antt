@@ -2,18 +2,18 @@
 use Rattle.std.proofs.Common.{◌≡◌, ℕ, zero, suc, ◌+◌, ◌<◌, ◌≤◌, Bool, List, [], ◌∷◌, ◌++◌, map, length, get_or, take, drop, set, replicate, sym, refl, ap, ◌∙◌, subst, ap₂, inl, inr, append_assoc, append-nil, add-one, arith, drop-cons, drop-set-lt}
 use mathlib.Core.Option.{Option, some, none}
 use Rattle.std.proofs.lemmas.List.{take_more_set, drop_all}
-use Rattle.world.specs.declared.Ask.{Ask}
-use Rattle.world.specs.declared.Ask.TheVariants.{New, Get, Set, Read, Write, Copy, Clear, Same, Sizes, Collect}
-use Rattle.world.specs.declared.Told.{Told}
+use Rattle.mutator.specs.declared.Ask.{Ask}
+use Rattle.mutator.specs.declared.Ask.TheVariants.{New, Get, Set, Read, Write, Copy, Clear, Same, Sizes, Collect}
+use Rattle.mutator.specs.declared.Told.{Told}
 use Rattle.std.proofs.lemmas.Bool.{cases_lt, lt-leb}
 use Rattle.world.specs.Base.{pick, opt, nth, put}
 use Rattle.world.specs.World.{World, world, Alike, blank, with_slot, made, weight}
-use Rattle.world.specs.Script.{Answer, Outcome, outcome, slot, allocated, answer, answers}
-use Rattle.world.specs.Refusals.{answer_of}
-use Rattle.world.proofs.Agrees.{agrees}
+use Rattle.mutator.specs.Script.{Answer, Outcome, outcome, slot, allocated, answer, answers}
+use Rattle.mutator.specs.Refusals.{answer_of}
+use Rattle.mutator.proofs.Agrees.{agrees}
 use Rattle.world.proofs.Equivalence.{alike_self}
-use Rattle.world.proofs.Keeps.{blank_valid}
-use Rattle.world.specs.Says.{room}
+use Rattle.world.proofs.Changes.{blank_valid}
+use Rattle.world.specs.Room.{room}
 use Rattle.layout.specs.Cells.{world_of}
 use Rattle.heap.specs.Says.{Does, Tells}
 

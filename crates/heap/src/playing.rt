@@ -1,20 +1,20 @@
 // A whole script on lent words, from the beginning.
 ghost use Rattle.std.specs.Prelude.{◌≡◌, ◌<◌, ◌≤◌, length, MatchResult};
 ghost use Rattle.std.proofs.Math.Option.{some, none};
-ghost use Rattle.world.specs.declared.refusal.Refusal.TheVariants.{NoSlot};
+ghost use Rattle.mutator.specs.declared.refusal.Refusal.TheVariants.{NoSlot};
 ghost use Rattle.world.specs.Base.{nth};
 ghost use Rattle.world.specs.World.{blank};
-ghost use Rattle.world.specs.Script.{answer};
-ghost use Rattle.world.specs.Refusals.{said};
+ghost use Rattle.mutator.specs.Script.{answer};
+ghost use Rattle.mutator.specs.Refusals.{said};
 ghost use Rattle.layout.specs.Cells.{world_of};
-ghost use Rattle.world.specs.Says.{room};
+ghost use Rattle.world.specs.Room.{room};
 ghost use Rattle.store.specs.Ready.{Ready};
 ghost use Rattle.heap.specs.Says.{PlaySays, Tells};
 
 use crate::calling::call;
 use store::{Manager, fits, start};
 use words::lent::Lent;
-use world::{Ask, Refusal, Told};
+use mutator::{Ask, Refusal, Told};
 
 // Is there such a slot? It is empty then.
 fn empty(slots: u16, s: u16) -> Result<(), Refusal>

@@ -1,10 +1,10 @@
 -- Calls that are played one after the other: none, and one more; and a sweep behind them.
 use Rattle.std.proofs.Common.{◌≡◌, ℕ, ◌+◌, ◌≤◌, Bool, true, false, List, [], ◌∷◌, ◌++◌, length, refl, ap, ◌∙◌, subst}
-use Rattle.world.specs.declared.Ask.{Ask}
+use Rattle.mutator.specs.declared.Ask.{Ask}
 use Rattle.world.specs.World.{World, Alike, blank}
-use Rattle.world.specs.Script.{Answer, answer}
-use Rattle.world.specs.Says.{room}
-use Rattle.world.proofs.Agrees.{agree}
+use Rattle.mutator.specs.Script.{Answer, answer}
+use Rattle.world.specs.Room.{room}
+use Rattle.mutator.proofs.Agrees.{agree}
 use Rattle.world.proofs.Equivalence.{alike_self, alike_through}
 use Rattle.world.proofs.Weighs.{weighs}
 use Rattle.collector.specs.Collected.{Collected}

@@ -1,9 +1,9 @@
 -- The world after a script's calls, and a heap that stands for one alike to it.
 use Rattle.std.specs.Prelude.{◌≡◌, ℕ, ◌+◌, ◌<◌, ◌≤◌, Bool, true, List, [], ◌∷◌, length}
-use Rattle.world.specs.declared.Ask.{Ask}
+use Rattle.mutator.specs.declared.Ask.{Ask}
 use Rattle.world.specs.World.{World, Alike, blank, weight}
-use Rattle.world.specs.Script.{answer}
-use Rattle.world.specs.Says.{room}
+use Rattle.mutator.specs.Script.{answer}
+use Rattle.world.specs.Room.{room}
 use Rattle.layout.specs.Cells.{base, free_of, world_of}
 use Rattle.layout.specs.Sound.{sound}
 use Rattle.picture.specs.declared.playing.Unseen.{Unseen}

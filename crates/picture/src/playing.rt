@@ -13,7 +13,7 @@ use std::alloc::{AllocError, Global};
 use store::{Manager, fits, start};
 use words::Words;
 use words::lent::Lent;
-use world::Ask;
+use mutator::Ask;
 
 // Why there is no heap to show.
 #[derive(Clone, Copy, PartialEq, Eq, Debug)]

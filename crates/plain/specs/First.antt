@@ -1,8 +1,8 @@
 -- What the first line makes.
 use Rattle.std.specs.Prelude.{◌≡◌, ℕ, List, Ok, Err, Result}
 use Rattle.world.specs.World.{blank}
-use Rattle.world.specs.Says.{room}
-use Rattle.world.specs.View.{view}
+use Rattle.world.specs.Room.{room}
+use Rattle.reference.specs.View.{view}
 use Rattle.script.specs.declared.error.LineError.{LineError}
 use Rattle.script.specs.declared.read.HeapSize.{HeapSize}
 use Rattle.script.specs.Reading.{heap_size_of}

@@ -8,13 +8,15 @@ use script::{HeapSize, is_passed_over, read_heap_size};
 use std::alloc::{AllocError, Global};
 use std::io::{BufRead, BufWriter, Stdout, Write};
 use std::process::ExitCode;
-use world::{Ask, PlainWorld, Told, room_for};
+use mutator::{Ask, Told};
+use reference::PlainWorld;
+use world::room_for;
 
 #[derive(Drop)]
 struct Plain(PlainWorld);
 
 impl Machine for Plain {
-    ghost use Rattle.world.specs.View.{view};
+    ghost use Rattle.reference.specs.View.{view};
 
     ghost memory = { λ p. record { room = p.0.room; world = view p.0 } };
 

@@ -9,7 +9,7 @@ use driver::{Fault, Script, exit_code, open_input, open_output, print_answers, r
 use std::alloc::{AllocError, Global};
 use std::io::{BufRead, Write};
 use std::process::ExitCode;
-use world::Told;
+use mutator::Told;
 
 fn answer(heap: Global, script: &Script) -> Result<Vec<Told>, AllocError>
     ensures { Answered script.now result }

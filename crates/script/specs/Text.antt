@@ -1,8 +1,8 @@
 -- How a call and an answer are written: the name and the numbers, each after one space, in decimal.
 use Rattle.std.specs.Prelude.{ℕ, List, [], ◌∷◌, ◌++◌, codes, decimal}
-use Rattle.world.specs.declared.Ask.{Ask}
-use Rattle.world.specs.declared.Ask.TheVariants.{New, Get, Set, Read, Write, Copy, Clear, Same, Sizes, Collect}
-use Rattle.world.specs.Script.{Answer}
+use Rattle.mutator.specs.declared.Ask.{Ask}
+use Rattle.mutator.specs.declared.Ask.TheVariants.{New, Get, Set, Read, Write, Copy, Clear, Same, Sizes, Collect}
+use Rattle.mutator.specs.Script.{Answer}
 use Rattle.script.specs.declared.error.LineError.{LineError}
 use Rattle.script.specs.declared.error.LineError.TheVariants.{UnknownCall, TooFewNumbers, TooManyNumbers, NotANumber, IndexTooLarge, ValueTooLarge, WordsTooLarge}
 

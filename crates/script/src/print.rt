@@ -1,10 +1,10 @@
 // Calls and answers as text.
 ghost use Rattle.std.specs.Prelude.{Some};
-ghost use Rattle.world.specs.Refusals.{answer_of};
+ghost use Rattle.mutator.specs.Refusals.{answer_of};
 ghost use Rattle.script.specs.Text.{call_text, answer_text};
 
 use std::fmt;
-use world::{Ask, Told};
+use mutator::{Ask, Told};
 
 // A call as its line is printed. `Ask` and `Told` are of another crate, which may not take impls from here.
 #[derive(Clone, Copy)]

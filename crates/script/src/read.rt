@@ -6,7 +6,7 @@ ghost use Rattle.script.specs.Reading.{body as body_of, called, call_of, heap_si
 use crate::error::LineError;
 use crate::reader::{ended, indices, next_number, one_index};
 use crate::tokens::split_token;
-use world::Ask;
+use mutator::Ask;
 
 // What the first line of a script says.
 #[derive(Clone, Copy, PartialEq, Eq, Debug)]

@@ -2,7 +2,7 @@
 ghost use Rattle.std.specs.Prelude.{◌≡◌, ℕ, ◌≤◌, [], ◌∷◌, IfOk, Ok};
 ghost use Rattle.script.specs.Tokens.{tokens};
 ghost use Rattle.script.specs.Reading.{limit, index, bind, next, indices as indices_of, ended as ended_of, reads, seen};
-ghost use Rattle.world.specs.declared.Ask.{Ask};
+ghost use Rattle.mutator.specs.declared.Ask.{Ask};
 
 use crate::error::LineError;
 use crate::numbers::number;

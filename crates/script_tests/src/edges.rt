@@ -1,7 +1,7 @@
 // Each call printed and read back, and each refusal once.
 use script::{CallText, LineError, is_passed_over, read_call, read_heap_size};
 use std::test::Fail;
-use world::Ask;
+use mutator::Ask;
 
 #[test]
 fn calls_come_back(rt: HostRuntime) -> Result<(), Fail> {

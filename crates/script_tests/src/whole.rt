@@ -4,7 +4,9 @@ ghost use Rattle.driver.specs.Playing.{Answered};
 use driver::{Fault, Script, print_answers, read_script};
 use std::alloc::{AllocError, Global};
 use std::test::Fail;
-use world::{PlainWorld, Told, room_for};
+use mutator::Told;
+use reference::PlainWorld;
+use world::room_for;
 
 fn answer(heap: Global, script: &Script) -> Result<Vec<Told>, AllocError>
     ensures { Answered script.now result }

@@ -6,7 +6,7 @@ use driver::{Fault, Script, exit_code, open_input, open_output, read_script};
 use std::io::{BufWriter, Stdout, Write};
 use std::process::ExitCode;
 use std::{env, fmt, io};
-use world::Ask;
+use mutator::Ask;
 
 #[derive(Drop)]
 enum Failure {

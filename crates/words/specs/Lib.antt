@@ -1,3 +1,5 @@
 -- The leaves of the manager: what single words say, as numbers.
 pub mod Header
+pub mod Kinds
 pub mod Reference
+pub mod Past

@@ -1,6 +1,6 @@
 -- The answers so far, and those to come from the world that the row stands for.
 use Rattle.std.proofs.Common.{◌≡◌, true, length}
-use Rattle.world.specs.Says.{room}
+use Rattle.world.specs.Room.{room}
 use Rattle.layout.specs.Cells.{world_of}
 use Rattle.layout.specs.Sound.{sound}
 use Rattle.heap.proofs.Scripts.{Telling}

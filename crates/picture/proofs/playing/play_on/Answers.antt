@@ -1,7 +1,7 @@
 -- One call more is played.
 use Rattle.std.proofs.Common.{◌∙◌, refl}
 use Rattle.std.proofs.lemmas.List.{take_more}
-use Rattle.world.specs.declared.Ask.TheVariants.{New}
+use Rattle.mutator.specs.declared.Ask.TheVariants.{New}
 use Rattle.picture.proofs.Calls.{plays_none, plays_more}
 use Rattle.picture.proofs.playing.play_on.Goals as goal
 

@@ -1,0 +1,4 @@
+-- Proofs on calls.
+pub mod Keeps
+pub mod Agrees
+pub mod Cases

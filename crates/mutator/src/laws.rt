@@ -1,0 +1,26 @@
+// The theorems on calls. Each function is there for its contract alone, which is the theorem.
+ghost use Rattle.mutator.specs.Laws.{AlikeAnswers, AlikeStep, StayingValid};
+ghost use Rattle.mutator.specs.Examples.{WorkedScripts};
+
+// Alike worlds answer every script alike: no mutator tells them apart.
+// The signature was given to the project: it answers a number that says nothing.
+pub fn alike_answers() -> u8
+    ensures { AlikeAnswers }
+{
+    0
+}
+
+// One call says the same of alike worlds and leaves them alike.
+pub fn alike_step()
+    ensures { AlikeStep }
+{}
+
+// Worlds begin valid and with no weight; a call keeps them valid and within the room, and adds no more weight than the object that it makes.
+pub fn staying_valid()
+    ensures { StayingValid }
+{}
+
+// Scripts whose answers can be followed by hand.
+pub fn worked_scripts()
+    ensures { WorkedScripts }
+{}

@@ -1,6 +1,0 @@
--- The worked scripts, answered by the definitions.
-use Rattle.std.proofs.Common.{refl}
-use Rattle.world.specs.Examples.{WorkedScripts}
-
-pub worked : WorkedScripts
-worked = record { lent = refl; full = refl; itself = refl; refused = refl; chain = refl; cycle = refl }
