@@ -1,4 +1,5 @@
 -- What a mutator may see: what each call answers, and what holds of all of them.
+pub mod Outcomes
 pub mod Script
 pub mod Laws
 pub mod Examples
