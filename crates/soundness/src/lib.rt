@@ -2,12 +2,13 @@
 #![tactic(auto)]
 
 ghost use Rattle.std.specs.Prelude.{◌≡◌, ◌+◌, ◌*◌, ◌<◌, ◌≤◌, true, ◌&&◌, length, ◌==◌, nat_lt, slice_index};
-ghost use Rattle.layout.specs.Cells.{base, layout, number, seg};
+ghost use Rattle.layout.specs.Cells.{layout, number, seg};
+ghost use Rattle.layout.specs.Map.{base};
 ghost use Rattle.layout.specs.Sound.{all_of, cell_ok, ends, none_header, reference_ok, root_header, sound};
 ghost use Rattle.soundness.specs.Walkable.{IsWalkable};
 ghost use Rattle.store.specs.Frame.{Looks, TouchesAtMost};
 
-use store::{Manager, OWN, Object, Objects, ROOT, none_header};
+use store::{Manager, NONE, OWN, Object, Objects, ROOT, none_header};
 use words::Words;
 use words::header::Header;
 use words::names::Addr;
@@ -25,7 +26,7 @@ pub fn is_sound<W: Words>(m: &mut Manager<W>) -> bool
         return false;
     }
     let free = m.free();
-    if free > m.words.count() {
+    if free > m.limit() {
         return false;
     }
     if !tiles(m, free) {
@@ -45,7 +46,7 @@ fn has_sentinels<W: Words>(m: &mut Manager<W>) -> bool
     ensures looks { Looks W.Words m.old m.new }
     ensures touches { TouchesAtMost 2 W.Words m.old m.new }
 {
-    m.words.get(0) == none_header().pack() && m.words.get(ROOT) == Header::plain(m.slots, 0).pack()
+    m.words.get(NONE) == none_header().pack() && m.words.get(ROOT) == Header::plain(m.slots, 0).pack()
 }
 
 // Do the objects, from header to header, end where the free words begin? Here and below `free` is no field beside the
@@ -118,7 +119,7 @@ fn are_references<W: Words>(m: &mut Manager<W>, free: usize, from: usize, count:
     true
 }
 
-// Has every object a plain header without a mark, and references in its places?
+// Has every object a well-formed header, and references where its kind has them?
 fn are_objects<W: Words>(m: &mut Manager<W>, free: usize) -> bool
     requires walkable { IsWalkable free W.Words m.old }
     requires tiled { ends (layout m.old.slots (W.Words.row m.old.words)) (base m.old.slots) free ≡ true }
@@ -130,10 +131,10 @@ fn are_objects<W: Words>(m: &mut Manager<W>, free: usize) -> bool
     let at = Addr(m.base());
     let mut objects = Objects { at, end: free };
     while let Some(Object { at, header }) = objects.next(m) {
-        if header.mark != 0 || header.kind != 0 {
+        if !header.is_well_formed() {
             return false;
         }
-        if !are_references(m, free, at.0 + 2, header.places as usize) {
+        if !are_references(m, free, at.0 + 2, header.references() as usize) {
             return false;
         }
     }

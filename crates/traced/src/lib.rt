@@ -55,6 +55,9 @@ impl Words for Traced {
     // Its own.
     ghost lender = { λ s. 0 };
 
+    // Memory: a stop leaves nothing of it.
+    ghost past = { λ s p. ⊥ };
+
     fn count(&self) -> usize {
         self.words.len()
     }
