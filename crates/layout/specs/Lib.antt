@@ -4,3 +4,4 @@ pub mod Cells
 pub mod Sound
 pub mod Marks
 pub mod Examples
+pub mod Roots

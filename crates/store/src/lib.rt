@@ -8,6 +8,7 @@ mod empty;
 mod manager;
 mod map;
 mod objects;
+mod roots;
 mod slots;
 
 pub use cursor::Objects;
@@ -15,3 +16,4 @@ pub use empty::{fits, none_header, start};
 pub use manager::Manager;
 pub use map::{ADDRESSES, NONE, OWN, ROOT};
 pub use objects::Object;
+pub use roots::Range;

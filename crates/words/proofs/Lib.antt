@@ -2,3 +2,4 @@
 pub mod HeaderLaws
 pub mod KindLaws
 pub mod ReferenceLaws
+pub mod EdgeLaws

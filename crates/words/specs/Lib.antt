@@ -3,3 +3,4 @@ pub mod Header
 pub mod Kinds
 pub mod Reference
 pub mod Past
+pub mod Edges

@@ -6,6 +6,7 @@ ghost use Rattle.std.specs.Borrow.{GName};
 ghost use Rattle.words.specs.Past.{Past, Notes, NotesNothing};
 
 pub mod asked;
+pub mod edges;
 pub mod header;
 pub mod kind;
 pub mod lent;
