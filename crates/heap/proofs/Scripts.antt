@@ -10,7 +10,7 @@ use Rattle.world.specs.Base.{pick, opt, nth, put}
 use Rattle.world.specs.World.{Obj, World, world, Alike, blank, with_slot, made, fresh, size, weight}
 use Rattle.mutator.specs.Script.{Answer, Outcome, outcome, slot, allocated, answer, answers}
 use Rattle.mutator.specs.Refusals.{answer_of}
-use Rattle.mutator.proofs.Agrees.{agrees}
+use Rattle.mutator.proofs.Calls.{agrees}
 use Rattle.world.proofs.Equivalence.{alike_self}
 use Rattle.world.proofs.Changes.{blank_valid}
 use Rattle.world.specs.Room.{room}

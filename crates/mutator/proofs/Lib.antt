@@ -5,3 +5,5 @@ pub mod Lawful
 pub mod CoreCalls
 pub mod Calls
 pub mod Cases
+pub mod Listing
+pub mod Roomless
