@@ -4,5 +4,5 @@
 mod calling;
 mod playing;
 
-pub use calling::call;
+pub use calling::{call, call_with};
 pub use playing::play;
