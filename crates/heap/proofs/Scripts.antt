@@ -7,10 +7,10 @@ use Rattle.mutator.specs.declared.Ask.TheVariants.{New, Get, Set, Read, Write, C
 use Rattle.mutator.specs.declared.Told.{Told}
 use Rattle.std.proofs.lemmas.Bool.{cases_lt, lt-leb}
 use Rattle.world.specs.Base.{pick, opt, nth, put}
-use Rattle.world.specs.World.{World, world, Alike, blank, with_slot, made, weight}
+use Rattle.world.specs.World.{Obj, World, world, Alike, blank, with_slot, made, fresh, size, weight}
 use Rattle.mutator.specs.Script.{Answer, Outcome, outcome, slot, allocated, answer, answers}
 use Rattle.mutator.specs.Refusals.{answer_of}
-use Rattle.mutator.proofs.Agrees.{agrees}
+use Rattle.mutator.proofs.Calls.{agrees}
 use Rattle.world.proofs.Equivalence.{alike_self}
 use Rattle.world.proofs.Changes.{blank_valid}
 use Rattle.world.specs.Room.{room}
@@ -83,11 +83,11 @@ put_empty (suc n) (suc s) = ap (λ (xs : List ℕ). 0 ∷ xs) (put_empty n s)
 slot_empty : (n s : ℕ) → with_slot (blank n) s 0 ≡ blank n
 slot_empty n s = ap (λ (xs : List ℕ). world xs []) (put_empty n s)
 
-no_room : (n s r k : ℕ) → (allocated 0 (blank n) s r k).after ≡ blank n
-no_room n s r k = ap (λ (b : Bool). (pick b (outcome 1 0 (made (blank n) s r k)) (outcome 0 0 (blank n))).after) (lt-leb (weight (blank n) + (2 + (r + k))) 0 (omega arith))
+no_room : (n s : ℕ) (o : Obj) → (allocated 0 (blank n) s o).after ≡ blank n
+no_room n s o = ap (λ (b : Bool). (pick b (outcome 1 0 (made (blank n) s o)) (outcome 0 0 (blank n))).after) (lt-leb (weight (blank n) + size o) 0 (omega arith))
 
 blank_stays : (n : ℕ) (q : Ask) → (answer 0 (blank n) q).after ≡ blank n
-blank_stays n (New s r k) = at_slot n s (λ old. allocated 0 (blank n) s r k) (no_room n s r k)
+blank_stays n (New s r k) = at_slot n s (λ old. allocated 0 (blank n) s (fresh r k)) (no_room n s (fresh r k))
 blank_stays n (Get t s i) = at_slot n t _ (at_slot n s _ refl)
 blank_stays n (Set s i t) = at_slot n s _ (at_slot n t _ refl)
 blank_stays n (Read s i) = at_slot n s _ refl

@@ -1,9 +1,9 @@
 -- The cells from an address on, for loops that go from header to header: one step, the end, and what is asked of all cells.
 use Rattle.std.proofs.Common.{◌≡◌, ℕ, zero, suc, ◌+◌, ◌-◌, ◌<◌, ◌≤◌, Bool, true, false, ◌&&◌, eqb, ltb, List, [], ◌∷◌, length, get_or, sym, refl, ap, ◌∙◌, inl, inr, arith}
-use Rattle.std.proofs.lemmas.Bool.{lt-ltb, le-ltb, eq-eqb, ne_eqb, cases_lt, cases_eq}
-use Rattle.words.specs.Header.{mark_of, kind_of}
+use Rattle.std.proofs.lemmas.Bool.{lt-ltb, le-ltb, eq-eqb, ne_eqb, cases_lt}
 use Rattle.layout.specs.Cells.{Cell, cell, span, cells, base, free_of, layout, seg, number, next}
-use Rattle.layout.specs.Sound.{all_of, ends, Tiled}
+use Rattle.layout.specs.Sound.{all_of, ends}
+use Rattle.layout.proofs.Facts.{Tiled}
 use Rattle.layout.proofs.Tiles.{tiled_le, cells_tiled}
 
 unfoldable pub rest : List ℕ → ℕ → ℕ → List Cell
@@ -79,13 +79,3 @@ part_step f row from n i l =
     let e : n - i ≡ suc (n - (i + 1)) = omega arith in
     let a : from + (i + 1) ≡ suc (from + i) = omega arith in
     rw (e, a)
-
--- a header without mark and kind is a word below 2^32
-pub plain_below : (w : ℕ) → ltb w 4294967296 ≡ eqb (mark_of w) 0 && eqb (kind_of w) 0
-plain_below w = elim (cases_lt w 4294967296) [
-  | inl l ↦ rw (lt-ltb w 4294967296 l, eq-eqb (mark_of w) 0 (omega arith), eq-eqb (kind_of w) 0 (omega arith))
-  | inr l ↦ elim (cases_eq (mark_of w) 0) [
-    | inl m ↦ rw (le-ltb w 4294967296 l, eq-eqb (mark_of w) 0 m, ne_eqb (kind_of w) 0 (λ k. omega arith))
-    | inr m ↦ rw (le-ltb w 4294967296 l, ne_eqb (mark_of w) 0 m)
-  ]
-]

@@ -1,6 +1,7 @@
 // The theorems on calls. Each function is there for its contract alone, which is the theorem.
 ghost use Rattle.mutator.specs.Laws.{AlikeAnswers, AlikeStep, StayingValid};
 ghost use Rattle.mutator.specs.Examples.{WorkedScripts};
+ghost use Rattle.mutator.specs.TableLaws.{TableHolds};
 
 // Alike worlds answer every script alike: no mutator tells them apart.
 // The signature was given to the project: it answers a number that says nothing.
@@ -23,4 +24,9 @@ pub fn staying_valid()
 // Scripts whose answers can be followed by hand.
 pub fn worked_scripts()
     ensures { WorkedScripts }
+{}
+
+// Every call is in the table of calls, and the table says what comes of it where there is no room.
+pub fn table_holds()
+    ensures { TableHolds }
 {}

@@ -2,10 +2,14 @@
 #![tactic(auto)]
 
 mod laws;
+mod number;
 mod refusal;
+mod table;
 
-pub use laws::{alike_answers, alike_step, staying_valid, worked_scripts};
+pub use laws::{alike_answers, alike_step, staying_valid, table_holds, worked_scripts};
+pub use number::{Number, Numbers};
 pub use refusal::Refusal;
+pub use table::{CALLS, Entry};
 
 // What a mutator asks. Slots, places, words and sizes are numbers below 65,536.
 #[derive(Clone, Copy, PartialEq, Eq, Debug)]

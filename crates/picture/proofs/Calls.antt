@@ -4,7 +4,7 @@ use Rattle.mutator.specs.declared.Ask.{Ask}
 use Rattle.world.specs.World.{World, Alike, blank}
 use Rattle.mutator.specs.Script.{Answer, answer}
 use Rattle.world.specs.Room.{room}
-use Rattle.mutator.proofs.Agrees.{agree}
+use Rattle.mutator.proofs.Calls.{agree}
 use Rattle.world.proofs.Equivalence.{alike_self, alike_through}
 use Rattle.world.proofs.Weighs.{weighs}
 use Rattle.collector.specs.Collected.{Collected}
@@ -28,7 +28,7 @@ plays_more qs q slots row row1 row2 t p k =
     let cap = room (length row) slots in
     let u = world_after cap (world_of slots row) qs in
     let here : Alike (answer cap (world_of slots row1) q).after (world_of slots row2) = subst (λ (n : ℕ). Alike (answer (room n slots) (world_of slots row1) q).after (world_of slots row2)) p.long k.does.after in
-    let both = alike_through _ _ _ (agree u (world_of slots row1) p.alike cap q).after here in
+    let both = alike_through _ _ _ (agree cap u (world_of slots row1) q p.alike).after here in
     record {
       stays = k.stays;
       long = k.long ∙ p.long;

@@ -1,8 +1,9 @@
 -- A loop from object to object: what it has touched, and what it still has to find out.
-use Rattle.std.proofs.Common.{◌≡◌, ℕ, ◌+◌, List, get_or, refl, ap, ◌∙◌, arith}
+use Rattle.std.proofs.Common.{◌≡◌, ℕ, List, get_or, refl, ap, ◌∙◌, arith}
 use Rattle.words.specs.declared.Words.{Ghosts}
 use Rattle.words.specs.declared.header.Header.{Header}
-use Rattle.words.specs.Header.{places_of, words_of, unpacked}
+use Rattle.words.specs.Header.{unpacked}
+use Rattle.words.specs.Kinds.{weight, weight_of}
 use Rattle.layout.specs.Cells.{cell, span, base, layout}
 use Rattle.layout.proofs.Rests.{rest, rest_layout}
 use Rattle.store.specs.declared.cursor.Objects.{Objects}
@@ -21,11 +22,10 @@ pub record Going {W : Type 0} (w : Ghosts W) (m m' : Manager W) (c : Objects) (f
   pub most : TouchesAtMost free w m m'
 
 -- the next header
-pub header_span : (row row' : List ℕ) (at : ℕ) (h : Header) (w : ℕ) → row' ≡ row → h ≡ unpacked (get_or row' at 0) → w ≡ 2 + (h.places + h.words) → w ≡ span (cell at (get_or row at 0))
+pub header_span : (row row' : List ℕ) (at : ℕ) (h : Header) (w : ℕ) → row' ≡ row → h ≡ unpacked (get_or row' at 0) → w ≡ weight h → w ≡ span (cell at (get_or row at 0))
 header_span row row' at h w e q f =
     let r = ap (λ (x : List ℕ). get_or x at 0) e in
-    let p : h.places ≡ places_of (get_or row at 0) = ap (λ (x : Header). x.places) q ∙ ap places_of r in
-    let n : h.words ≡ words_of (get_or row at 0) = ap (λ (x : Header). x.words) q ∙ ap words_of r in
+    let p : weight h ≡ weight_of (get_or row at 0) = ap weight q ∙ ap weight_of r in
     omega arith
 
 -- at first

@@ -1,11 +1,11 @@
 -- One word or one object more is judged, and what is then left to judge.
-use Rattle.std.proofs.Common.{◌≡◌, ℕ, ◌+◌, ◌-◌, ◌<◌, ◌≤◌, Bool, true, false, ◌&&◌, eqb, ltb, ◌⊎◌, List, get_or, sym, refl, ap, ◌∙◌, inl, inr, arith}
-use Rattle.std.proofs.lemmas.Bool.{eq-eqb, ne_eqb}
+use Rattle.std.proofs.Common.{◌≡◌, ℕ, ◌+◌, ◌-◌, ◌<◌, ◌≤◌, Bool, true, false, ◌&&◌, List, get_or, sym, refl, ap, ◌∙◌, arith}
 use Rattle.words.specs.declared.header.Header.{Header}
-use Rattle.words.specs.Header.{places_of, words_of, mark_of, kind_of, unpacked}
+use Rattle.words.specs.Header.{unpacked}
+use Rattle.words.specs.Kinds.{weight, references, place_count, word_count, well_formed, place_count_of, word_count_of, is_well_formed}
 use Rattle.layout.specs.Cells.{cell, layout, seg}
 use Rattle.layout.specs.Sound.{all_of, reference_ok, cell_ok, ends}
-use Rattle.layout.proofs.Rests.{rest, rest_within, ends_step, part_step, all_step, plain_below}
+use Rattle.layout.proofs.Rests.{rest, rest_within, ends_step, part_step, all_step}
 use Rattle.soundness.specs.Walkable.{Walkable}
 
 -- a row that is as it was can still be looked through
@@ -31,66 +31,51 @@ module _ (slots slots1 : ℕ) (row row1 : List ℕ) (from n i : ℕ) (y : Bool) 
   pub word_true : true ≡ reference_ok (layout slots1 row1) (get_or row1 (from + i) 0) → all_of (reference_ok (layout slots row)) (seg row (from + (i + 1)) (n - (i + 1))) ≡ y
   word_true q = and_true _ _ _ y inv (part_step (reference_ok (layout slots row)) row from n i l) (word_is true q)
 
--- an object whose header is or is not plain, and whose places are or are not references
-module _ (slots slots1 : ℕ) (row row1 : List ℕ) (at free w : ℕ) (h : Header) (y : Bool) (l : at < free) (e : row1 ≡ row) (f : slots1 ≡ slots) (q : h ≡ unpacked (get_or row1 at 0)) (s : w ≡ 2 + (h.places + h.words))
+-- an object whose header is or is not well formed, and whose places are or are not references
+module _ (slots slots1 : ℕ) (row row1 : List ℕ) (at free w : ℕ) (h : Header) (y : Bool) (l : at < free) (e : row1 ≡ row) (f : slots1 ≡ slots) (q : h ≡ unpacked (get_or row1 at 0)) (s : w ≡ weight h)
     (inv : all_of (cell_ok (layout slots row) row) (rest row at free) ≡ y) where
   head : h ≡ unpacked (get_or row at 0)
   head = q ∙ ap (λ (x : List ℕ). unpacked (get_or x at 0)) e
 
   step : all_of (cell_ok (layout slots row) row) (rest row at free) ≡ cell_ok (layout slots row) row (cell at (get_or row at 0)) && all_of (cell_ok (layout slots row) row) (rest row (at + w) free)
   step =
-      let p = ap (λ (x : Header). x.places) head in
-      let n = ap (λ (x : Header). x.words) head in
+      let p = ap weight head in
       all_step (cell_ok (layout slots row) row) row at free w l (omega arith)
 
-  places_are : seg row (at + 2) h.places ≡ seg row (at + 2) (places_of (get_or row at 0))
-  places_are = ap (λ (x : Header). seg row (at + 2) x.places) head
+  places_are : seg row (at + 2) (references h) ≡ seg row (at + 2) (references (unpacked (get_or row at 0)))
+  places_are = ap (λ (x : Header). seg row (at + 2) (references x)) head
 
-  cell_is : (a b : Bool) → ltb (get_or row at 0) 4294967296 ≡ a → all_of (reference_ok (layout slots row)) (seg row (at + 2) h.places) ≡ b → cell_ok (layout slots row) row (cell at (get_or row at 0)) ≡ a && b
-  cell_is a b p r = let k = places_are in let m = sym (ap (all_of (reference_ok (layout slots row))) k) ∙ r in cc
+  headed : is_well_formed (get_or row at 0) ≡ well_formed h
+  headed = ap well_formed (sym head)
 
-  pub header_false : {A : Type 0} → (h.mark ≡ 0 → ⊥) ⊎ (A × (h.kind ≡ 0 → ⊥)) → false ≡ y
-  header_false u =
-      let m = ap (λ (x : Header). x.mark) head in
-      let k = ap (λ (x : Header). x.kind) head in
-      and_false _ _ _ y inv step (cell_is false _ (not_plain u m k) refl)
-    where
-      not_plain : {A : Type 0} → (h.mark ≡ 0 → ⊥) ⊎ (A × (h.kind ≡ 0 → ⊥)) → h.mark ≡ mark_of (get_or row at 0) → h.kind ≡ kind_of (get_or row at 0) → ltb (get_or row at 0) 4294967296 ≡ false
-      not_plain (inl d) m k = plain_below (get_or row at 0) ∙ rw (ne_eqb (mark_of (get_or row at 0)) 0 (λ z. d (m ∙ z)))
-      not_plain (inr d) m k = plain_below (get_or row at 0) ∙ both (eqb (mark_of (get_or row at 0)) 0) (ne_eqb (kind_of (get_or row at 0)) 0 (λ z. d.1 (k ∙ z)))
-        where
-          both : (a : Bool) → eqb (kind_of (get_or row at 0)) 0 ≡ false → a && eqb (kind_of (get_or row at 0)) 0 ≡ false
-          both true z = z
-          both false z = refl
+  cell_is : (a b : Bool) → well_formed h ≡ a → all_of (reference_ok (layout slots row)) (seg row (at + 2) (references h)) ≡ b → cell_ok (layout slots row) row (cell at (get_or row at 0)) ≡ a && b
+  cell_is a b p r = let k = places_are in let m = sym (ap (all_of (reference_ok (layout slots row))) k) ∙ r in let n = headed ∙ p in cc
 
-  plain : h.mark ≡ 0 → h.kind ≡ 0 → ltb (get_or row at 0) 4294967296 ≡ true
-  plain m k =
-      let m1 = ap (λ (x : Header). x.mark) head in
-      let k1 = ap (λ (x : Header). x.kind) head in
-      plain_below (get_or row at 0) ∙ rw (eq-eqb (mark_of (get_or row at 0)) 0 (sym m1 ∙ m), eq-eqb (kind_of (get_or row at 0)) 0 (sym k1 ∙ k))
+  pub header_false : false ≡ well_formed h → false ≡ y
+  header_false u = and_false _ _ _ y inv step (cell_is false _ (sym u) refl)
 
-  pub places_false : h.mark ≡ 0 → h.kind ≡ 0 → false ≡ all_of (reference_ok (layout slots1 row1)) (seg row1 (at + 2) h.places) → false ≡ y
-  places_false m k r =
-      let z : all_of (reference_ok (layout slots row)) (seg row (at + 2) h.places) ≡ false = cc in
-      and_false _ _ _ y inv step (cell_is true false (plain m k) z)
+  pub places_false : true ≡ well_formed h → false ≡ all_of (reference_ok (layout slots1 row1)) (seg row1 (at + 2) (references h)) → false ≡ y
+  places_false u r =
+      let z : all_of (reference_ok (layout slots row)) (seg row (at + 2) (references h)) ≡ false = cc in
+      and_false _ _ _ y inv step (cell_is true false (sym u) z)
 
-  pub object_true : h.mark ≡ 0 → h.kind ≡ 0 → true ≡ all_of (reference_ok (layout slots1 row1)) (seg row1 (at + 2) h.places) → all_of (cell_ok (layout slots row) row) (rest row (at + w) free) ≡ y
-  object_true m k r =
-      let z : all_of (reference_ok (layout slots row)) (seg row (at + 2) h.places) ≡ true = cc in
-      and_true _ _ _ y inv step (cell_is true true (plain m k) z)
+  pub object_true : true ≡ well_formed h → true ≡ all_of (reference_ok (layout slots1 row1)) (seg row1 (at + 2) (references h)) → all_of (cell_ok (layout slots row) row) (rest row (at + w) free) ≡ y
+  object_true u r =
+      let z : all_of (reference_ok (layout slots row)) (seg row (at + 2) (references h)) ≡ true = cc in
+      and_true _ _ _ y inv step (cell_is true true (sym u) z)
 
 -- the object ends before the free words begin, and the others are as before
-pub object_ends : (row row1 : List ℕ) (at free : ℕ) (h : Header) → at < free → ends (rest row at free) at free ≡ true → row1 ≡ row → h ≡ unpacked (get_or row1 at 0) → at + (2 + (h.places + h.words)) ≤ free
+pub object_ends : (row row1 : List ℕ) (at free : ℕ) (h : Header) → at < free → ends (rest row at free) at free ≡ true → row1 ≡ row → h ≡ unpacked (get_or row1 at 0) → at + (weight h) ≤ free
 object_ends row row1 at free h l t e q =
     let r = ap (λ (x : List ℕ). get_or x at 0) e in
-    let p : h.places ≡ places_of (get_or row at 0) = ap (λ (x : Header). x.places) q ∙ ap places_of r in
-    let n : h.words ≡ words_of (get_or row at 0) = ap (λ (x : Header). x.words) q ∙ ap words_of r in
+    let p : place_count h ≡ place_count_of (get_or row at 0) = ap place_count q ∙ ap place_count_of r in
+    let n : word_count h ≡ word_count_of (get_or row at 0) = ap word_count q ∙ ap word_count_of r in
     omega (arith, rest_within row at free l t)
 
-pub ends_still : (row row1 : List ℕ) (at free w : ℕ) (h : Header) → at < free → ends (rest row at free) at free ≡ true → row1 ≡ row → h ≡ unpacked (get_or row1 at 0) → w ≡ 2 + (h.places + h.words)
+pub ends_still : (row row1 : List ℕ) (at free w : ℕ) (h : Header) → at < free → ends (rest row at free) at free ≡ true → row1 ≡ row → h ≡ unpacked (get_or row1 at 0) → w ≡ weight h
     → ends (rest row (at + w) free) (at + w) free ≡ true
 ends_still row row1 at free w h l t e q s =
     let r = ap (λ (x : List ℕ). get_or x at 0) e in
-    let p : h.places ≡ places_of (get_or row at 0) = ap (λ (x : Header). x.places) q ∙ ap places_of r in
-    let n : h.words ≡ words_of (get_or row at 0) = ap (λ (x : Header). x.words) q ∙ ap words_of r in
+    let p : place_count h ≡ place_count_of (get_or row at 0) = ap place_count q ∙ ap place_count_of r in
+    let n : word_count h ≡ word_count_of (get_or row at 0) = ap word_count q ∙ ap word_count_of r in
     sym (ends_step row at free w l (omega arith)) ∙ t

@@ -2,6 +2,5 @@
 pub mod Open
 pub mod Ready
 pub mod Wiped
-pub mod Amid
 pub mod Frame
 pub mod Cursor

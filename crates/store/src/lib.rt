@@ -2,13 +2,18 @@
 #![tactic(auto)]
 
 mod access;
+mod barriers;
 mod cursor;
 mod empty;
 mod manager;
+mod map;
 mod objects;
+mod roots;
 mod slots;
 
 pub use cursor::Objects;
 pub use empty::{fits, none_header, start};
-pub use manager::{ADDRESSES, Manager, OWN, ROOT};
+pub use manager::Manager;
+pub use map::{ADDRESSES, NONE, OWN, ROOT};
 pub use objects::Object;
+pub use roots::Range;

@@ -1,3 +1,6 @@
 -- The leaves of the manager: what single words say, as numbers.
 pub mod Header
+pub mod Kinds
 pub mod Reference
+pub mod Past
+pub mod Edges

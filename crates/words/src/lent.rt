@@ -17,6 +17,9 @@ impl<'a> Words for Lent<'a> {
 
     ghost lender = { λ s. s.words.ghost_name };
 
+    // Memory: a stop leaves nothing of it.
+    ghost past = { λ s p. ⊥ };
+
     fn count(&self) -> usize {
         self.words.len()
     }

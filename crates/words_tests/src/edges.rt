@@ -25,7 +25,7 @@ fn sizes_never_spill_into_marks(rt: HostRuntime) {
     let large = Header::plain(65535, 65535);
     assert!(rt; !large.is_marked());
     assert_eq!(rt; large.weight(), 131072);
-    assert_eq!(rt; large.traced(), 65535);
+    assert_eq!(rt; large.cells(), 65535);
     let met = large.advance();
     assert!(rt; met.is_marked());
     assert_eq!(rt; met.pack(), 0x1_ffff_ffff);

@@ -25,13 +25,13 @@ loop-at-init g c =
       objects = ap (all_of (cell_ok (layout c.args.m.now.slots row) row)) r;
     }
 
-pub returns-then-header-ne0 : goal.returns-then-header-ne0
-returns-then-header-ne0 g c =
+pub returns-then-not-is_well_formed : goal.returns-then-not-is_well_formed
+returns-then-not-is_well_formed g c =
     let i = c.loop-at.invariant in
     let k = c.in-Some.ensures.found in
     let s = step_within c.loop-at.objects.at.0 c.args.free (1 + c.args.free) (omega arith) in
     record {
-      value = header_false _ _ _ _ _ _ _ _ _ (omega arith) i.looks.same i.looks.frame.slots k.value refl i.objects c.then-header-ne0.either;
+      value = header_false _ _ _ _ _ _ _ _ _ (omega arith) i.looks.same i.looks.frame.slots k.value refl i.objects c.if-not-is_well_formed.ensures;
       looks = looked k.looks i.looks;
       touches = omega arith;
     }
@@ -44,7 +44,7 @@ are_references-requires g c =
     let e = ap length (k.looks.same ∙ i.looks.same) in
     let w = c.requires.walkable in
     let o = object_ends _ _ _ _ h (omega arith) i.tiled i.looks.same k.value in
-    let s = object_within c.loop-at.objects.at.0 h.places h.words c.args.free (1 + c.args.free) (omega arith) o in
+    let s = object_within c.loop-at.objects.at.0 c.references.result h.words c.args.free (1 + c.args.free) (omega arith) (omega (arith, o, c.references.ensures)) in
     record { walkable = walkable_still _ _ _ _ _ c.requires.walkable (k.looks.same ∙ i.looks.same) (k.looks.frame.slots ∙ i.looks.frame.slots); within = omega arith; few = omega arith }
 
 pub returns-then-not-are_references : goal.returns-then-not-are_references
@@ -54,9 +54,9 @@ returns-then-not-are_references g c =
     let r = c.if-not-are_references.ensures in
     let h = c.in-Some.field-0.header in
     let o = object_ends _ _ _ _ h (omega arith) i.tiled i.looks.same k.value in
-    let s = object_within c.loop-at.objects.at.0 h.places h.words c.args.free (1 + c.args.free) (omega arith) o in
+    let s = object_within c.loop-at.objects.at.0 c.references.result h.words c.args.free (1 + c.args.free) (omega arith) (omega (arith, o, c.references.ensures)) in
     record {
-      value = places_false _ _ _ _ _ _ _ h _ (omega arith) (k.looks.same ∙ i.looks.same) (k.looks.frame.slots ∙ i.looks.frame.slots) (k.value ∙ ap (λ (x : List ℕ). unpacked (get_or x c.loop-at.objects.at.0 0)) (sym k.looks.same)) refl i.objects c.if-header-ne0.false c.if-header-ne0-2.false (rw k.here at r.value);
+      value = places_false _ _ _ _ _ _ _ h _ (omega arith) (k.looks.same ∙ i.looks.same) (k.looks.frame.slots ∙ i.looks.frame.slots) (k.value ∙ ap (λ (x : List ℕ). unpacked (get_or x c.loop-at.objects.at.0 0)) (sym k.looks.same)) refl i.objects c.if-not-is_well_formed.ensures (rw (k.here, c.references.ensures) at r.value);
       looks = looked r.looks (looked k.looks i.looks);
       touches = omega arith;
     }
@@ -68,14 +68,15 @@ loop-at-preserved g c =
     let r = c.if-not-are_references.ensures in
     let h = c.in-Some.field-0.header in
     let o = object_ends _ _ _ _ h (omega arith) i.tiled i.looks.same k.value in
-    let s = object_within c.loop-at.objects.at.0 h.places h.words c.args.free (1 + c.args.free) (omega arith) o in
-    let p = ap (λ (x : ℕ). x * (1 + c.args.free)) k.behind in
+    let s = object_within c.loop-at.objects.at.0 c.references.result h.words c.args.free (1 + c.args.free) (omega arith) (omega (arith, o, c.references.ensures)) in
+    let b : c.next.new.self.at.0 ≡ c.loop-at.objects.at.0 + (2 + (c.references.result + h.words)) = omega (arith, k.behind, c.references.ensures) in
+    let p = ap (λ (x : ℕ). x * (1 + c.args.free)) b in
     record {
       looks = looked r.looks (looked k.looks i.looks);
       end = k.end ∙ i.end;
       few = omega arith;
       tiled = rw k.behind (ends_still _ _ _ _ _ h (omega arith) i.tiled i.looks.same k.value refl);
-      objects = rw k.behind (object_true _ _ _ _ _ _ _ h _ (omega arith) (k.looks.same ∙ i.looks.same) (k.looks.frame.slots ∙ i.looks.frame.slots) (k.value ∙ ap (λ (x : List ℕ). unpacked (get_or x c.loop-at.objects.at.0 0)) (sym k.looks.same)) refl i.objects c.if-header-ne0.false c.if-header-ne0-2.false (rw k.here at r.value));
+      objects = rw k.behind (object_true _ _ _ _ _ _ _ h _ (omega arith) (k.looks.same ∙ i.looks.same) (k.looks.frame.slots ∙ i.looks.frame.slots) (k.value ∙ ap (λ (x : List ℕ). unpacked (get_or x c.loop-at.objects.at.0 0)) (sym k.looks.same)) refl i.objects c.if-not-is_well_formed.ensures (rw (k.here, c.references.ensures) at r.value));
     }
 
 pub returns : goal.returns

@@ -13,8 +13,8 @@ returns-then-not-has_sentinels g c =
     let v = (covers 0 n (omega arith)).0 in
     record { value = unsound_0 _ _ k.value; looks = k.looks; touches = omega arith }
 
-pub returns-then-free-count : goal.returns-then-free-count
-returns-then-free-count g c =
+pub returns-then-free-limit : goal.returns-then-free-limit
+returns-then-free-limit g c =
     let k = c.if-not-has_sentinels.ensures in
     let f = c.free-free.ensures in
     let n = length (g.W.Words.row c.args.m.now.words) in

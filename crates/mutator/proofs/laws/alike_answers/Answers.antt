@@ -1,5 +1,5 @@
--- The theorem is proved in Agrees.
-use Rattle.mutator.proofs.Agrees.{agrees}
+-- The theorem is proved in Calls.
+use Rattle.mutator.proofs.Calls.{agrees}
 use Rattle.mutator.proofs.laws.alike_answers.Goals as goal
 
 pub returns : goal.returns

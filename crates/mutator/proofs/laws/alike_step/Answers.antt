@@ -1,6 +1,6 @@
--- The theorem is proved in Agrees.
-use Rattle.mutator.proofs.Agrees.{agree}
+-- The theorem is proved in Calls.
+use Rattle.mutator.proofs.Calls.{agree}
 use Rattle.mutator.proofs.laws.alike_step.Goals as goal
 
 pub returns : goal.returns
-returns c = λ cap u v q A. agree u v A cap q
+returns c = agree

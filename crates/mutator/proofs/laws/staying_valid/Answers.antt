@@ -1,5 +1,5 @@
--- The theorem is proved in Keeps.
-use Rattle.mutator.proofs.Keeps.{staying_valid}
+-- The theorem is proved in Calls.
+use Rattle.mutator.proofs.Calls.{staying_valid}
 use Rattle.mutator.proofs.laws.staying_valid.Goals as goal
 
 pub returns : goal.returns
