@@ -2,6 +2,7 @@
 #![tactic(auto)]
 
 mod calling;
+mod core_calls;
 mod playing;
 
 pub use calling::{call, call_with};
