@@ -4,4 +4,4 @@ use Rattle.heap.proofs.Arms.{most_in_all}
 use Rattle.heap.proofs.calling.call.Goals as goal
 
 pub returns-clause-touches : goal.returns-clause-touches
-returns-clause-touches g c = omega (arith, c.call_with.ensures.most, most_in_all c.args.q.now _ _ c.requires.ok c.requires.fits)
+returns-clause-touches g c = omega (arith, c.call_with.ensures.most, most_in_all c.args.q.now (g.W.Words.row c.args.m.now.words))
