@@ -1,12 +1,12 @@
 -- What the lines of a script say, one after the other, and which lines an input has.
-use Rattle.std.specs.Prelude.{◌≡◌, ℕ, zero, suc, ◌+◌, ◌<◌, cond, List, [], ◌∷◌, ◌++◌, length, take, IfOk, IfErr, IfSome, Some, None, Ok, Err, vec_items, Option, Result, Vec, MatchResult, slice_index_or}
+use Rattle.std.specs.Prelude.{◌≡◌, ℕ, zero, suc, ◌+◌, ◌<◌, List, [], ◌∷◌, ◌++◌, length, take, IfOk, IfErr, IfSome, Some, None, Ok, Err, vec_items, Option, Result, Vec, MatchResult, slice_index_or}
 use Rattle.std.specs.Result.{result_and}
 use Rattle.std.specs.Io.BufRead.{first_line, drop_through}
 use Rattle.std.specs.declared.alloc.Global.{Global}
 use Rattle.mutator.specs.declared.Ask.{Ask}
 use Rattle.script.specs.declared.error.LineError.{LineError}
 use Rattle.script.specs.declared.read.HeapSize.{HeapSize}
-use Rattle.script.specs.Reading.{bind, heap_size_of, passed_over, line_of}
+use Rattle.script.specs.Reading.{bind, opening_of, line_of}
 use Rattle.driver.specs.declared.fault.Fault.{Fault}
 use Rattle.driver.specs.declared.fault.Fault.TheVariants.{Line, Unread, NoMemory, NoFirstLine, Unwritten}
 use Rattle.driver.specs.declared.reading.Reading.{Reading}
@@ -26,18 +26,14 @@ nothing = said None []
 abbrev pub so_far : Reading → Said
 so_far r = said r.size (vec_items r.calls)
 
--- the first line that is not passed over says how many words and slots there are
-abbrev pub opening : List ℕ → Result (Option HeapSize) LineError
-opening line = cond (passed_over line) (Ok None) (bind (heap_size_of line) (λ h. Ok (Some h)))
-
 -- a call comes behind the others
 abbrev pub with_line : List Ask → Option Ask → List Ask
 with_line qs None = qs
 with_line qs (Some q) = qs ++ (q ∷ [])
 
--- one line more
+-- one line more; the first that is not passed over says how many words and slots there are
 abbrev pub one_more : Option HeapSize → List Ask → List ℕ → Result Said LineError
-one_more None qs line = bind (opening line) (λ o. Ok (said o qs))
+one_more None qs line = bind (opening_of line) (λ o. Ok (said o qs))
 one_more (Some h) qs line = bind (line_of line) (λ l. Ok (said (Some h) (with_line qs l)))
 
 abbrev pub after : Said → List ℕ → Result Said LineError

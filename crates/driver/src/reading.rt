@@ -1,10 +1,10 @@
 // A whole script from an input.
 ghost use Rattle.std.specs.Prelude.{◌≡◌, IfErr};
 ghost use Rattle.driver.specs.declared.fault.Fault.TheVariants.{NoMemory};
-ghost use Rattle.driver.specs.Reading.{opening as opening_of, so_far, Takes, TakesInput, nothing, script_of, SaidBy};
+ghost use Rattle.driver.specs.Reading.{so_far, Takes, TakesInput, nothing, script_of, SaidBy};
 
 use crate::fault::Fault;
-use script::{HeapSize, LineError, is_passed_over, read_heap_size, read_line};
+use script::{HeapSize, read_line, read_opening};
 use std::alloc::Global;
 use std::io::{BufRead, BufReader, Stdin};
 use mutator::Ask;
@@ -24,17 +24,6 @@ struct Reading {
     calls: Vec<Ask>,
 }
 
-// What the first line says, unless it is passed over. As `read_line` of a call: a function for both would take the reader and
-// say no less.
-fn opening(line: &str) -> Result<Option<HeapSize>, LineError>
-    ensures { result ≡ opening_of line.now }
-{
-    if is_passed_over(line) {
-        return Ok(None);
-    }
-    read_heap_size(line).map(Some)
-}
-
 impl Reading {
     // Before the first line.
     fn new(heap: Global) -> Reading
@@ -51,7 +40,7 @@ impl Reading {
         ensures { Takes (so_far self.old) number line.now (so_far self.new) result }
     {
         if self.size.is_none() {
-            self.size = opening(line).map_err(|why| Fault::Line(number, why))?;
+            self.size = read_opening(line).map_err(|why| Fault::Line(number, why))?;
             return Ok(());
         }
         match read_line(line).map_err(|why| Fault::Line(number, why))? {

@@ -1,9 +1,10 @@
 -- Each call is in the table: found by its name, and made again of its numbers.
-use Rattle.std.proofs.Common.{◌≡◌, ℕ, List, [], ◌∷◌, ◌++◌, refl}
+use Rattle.std.proofs.Common.{◌≡◌, ℕ, ◌^◌, ◌<◌, List, [], ◌∷◌, ◌++◌, refl, arith}
 use Rattle.mutator.specs.declared.Ask.{Ask}
 use Rattle.mutator.specs.declared.Ask.TheVariants.{New, Get, Set, Read, Write, Copy, Clear, Same, Sizes, Collect}
 use Rattle.mutator.specs.declared.number.Number.{Number}
-use Rattle.mutator.specs.Numbers.{like}
+use Rattle.mutator.specs.declared.number.Number.TheVariants.{Slot, Place, WordIndex, Size, Value}
+use Rattle.mutator.specs.Numbers.{value, most, like}
 use Rattle.mutator.specs.Table.{name, numbers, calls}
 use Rattle.mutator.specs.TableLaws.{Found}
 
@@ -27,6 +28,28 @@ Made f (k ∷ ks) front = (n : ℕ) → Made f ks (front ++ like k n ∷ [])
 abbrev pub AllMade : List (List Number → Ask) → Type 0
 AllMade [] = Unit {0}
 AllMade (f ∷ fs) = Made f (numbers (f [])) [] × AllMade fs
+
+-- a number like another has its own value, and the bound of the other
+pub like_value : (k : Number) (n : ℕ) → value (like k n) ≡ n
+like_value (Slot m) n = refl
+like_value (Place m) n = refl
+like_value (WordIndex m) n = refl
+like_value (Size m) n = refl
+like_value (Value m) n = refl
+
+pub like_most : (k : Number) (n : ℕ) → most (like k n) ≡ most k
+like_most (Slot m) n = refl
+like_most (Place m) n = refl
+like_most (WordIndex m) n = refl
+like_most (Size m) n = refl
+like_most (Value m) n = refl
+
+pub most_small : (k : Number) → most k < 2 ^ 64
+most_small (Slot m) = omega arith
+most_small (Place m) = omega arith
+most_small (WordIndex m) = omega arith
+most_small (Size m) = omega arith
+most_small (Value m) = omega arith
 
 infixr 5 ◌and◌
 ◌and◌ : {A B : Type 0} → A → B → A × B

@@ -12,7 +12,7 @@ use Rattle.world.specs.World.{blank}
 -- numbers of these kinds
 abbrev pub likes : List Number → List ℕ → List Number
 likes [] ns = []
-likes (k ∷ ks) [] = []
+likes (k ∷ ks) [] = k ∷ ks
 likes (k ∷ ks) (n ∷ ns) = like k n ∷ likes ks ns
 
 -- a call is found by its name, has the kinds of numbers that are found there, and is made again of its numbers

@@ -4,7 +4,7 @@
 ghost use Rattle.plain.specs.First.{Begins};
 
 use driver::{Fault, Machine, exit_code, open_input, open_output, play_line};
-use script::{HeapSize, is_passed_over, read_heap_size};
+use script::{HeapSize, read_opening};
 use std::alloc::{AllocError, Global};
 use std::io::{BufRead, BufWriter, Stdout, Write};
 use std::process::ExitCode;
@@ -25,14 +25,17 @@ impl Machine for Plain {
     }
 }
 
-// The world that the first line asks for.
-fn begin(heap: Global, number: usize, line: &str) -> Result<Plain, Fault>
+// The world that the first line asks for; there is none yet where it is passed over.
+fn begin(heap: Global, number: usize, line: &str) -> Result<Option<Plain>, Fault>
     ensures { Begins line.now number result }
 {
-    let HeapSize { words, slots } = read_heap_size(line).map_err(|why| Fault::Line(number, why))?;
+    let opening = read_opening(line).map_err(|why| Fault::Line(number, why))?;
+    let Some(HeapSize { words, slots }) = opening else {
+        return Ok(None);
+    };
     let room = room_for(words as usize, slots);
     let world = PlainWorld::new(heap, room, slots).map_err(|_| Fault::NoMemory(number))?;
-    Ok(Plain(world))
+    Ok(Some(Plain(world)))
 }
 
 // The first line that is not passed over makes the world; the others are calls.
@@ -43,11 +46,7 @@ fn answer_all(rt: &HostRuntime, out: &mut BufWriter<Stdout>) -> Result<(), Fault
         let line = line.map_err(|why| Fault::Unread(number, why))?;
         match &mut machine {
             Some(machine) => play_line(machine, out, number, line.as_str())?,
-            None => {
-                if !is_passed_over(line.as_str()) {
-                    machine = Some(begin(heap, number, line.as_str())?);
-                }
-            }
+            None => machine = begin(heap, number, line.as_str())?,
         }
     }
     machine.map(|_| ()).ok_or(Fault::NoFirstLine)

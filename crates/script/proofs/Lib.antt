@@ -1,7 +1,7 @@
 -- Lemmas on tokens, decimals and calls.
 pub mod Cuts
 pub mod Values
-pub mod Indices
 pub mod Bodies
 pub mod Spelt
 pub mod Printed
+pub mod Naming

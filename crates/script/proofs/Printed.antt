@@ -1,15 +1,19 @@
 -- What is printed of a call is read as that call.
-use Rattle.std.proofs.Common.{◌≡◌, ℕ, zero, suc, ◌^◌, ◌<◌, Bool, true, false, not, ◌&&◌, eqb, ltb, leb, List, [], ◌∷◌, ◌++◌, map, length, decimal, refl, ap, ◌∙◌, arith}
+use Rattle.std.proofs.Common.{◌≡◌, ℕ, zero, suc, ◌^◌, ◌<◌, Bool, true, false, not, ◌&&◌, eqb, ltb, leb, List, [], ◌∷◌, ◌++◌, map, length, decimal, Some, sym, subst, refl, ap, ◌∙◌, arith}
 use Rattle.std.specs.Char.{is_ascii_digit}
-use Rattle.std.specs.Str.{all_ascii_digits}
+use Rattle.std.specs.Str.{all_ascii_digits, bytes_eq}
+use Rattle.std.proofs.lemmas.Slice.Eq.{bytes_eq-Decides}
 use Rattle.std.proofs.lemmas.Fmt.{digits_decimal, digits_value-decimal, decimal_nonempty}
 use Rattle.std.proofs.lemmas.Bool.{and_parts, and_from, leb-true, lt-ltb, ltb-true, ne_eqb, or_from, not-true, not_from_false}
 use Rattle.mutator.specs.declared.Ask.{Ask}
-use Rattle.mutator.specs.declared.Ask.TheVariants.{New, Get, Set, Read, Write, Copy, Clear, Same, Sizes, Collect}
-use Rattle.script.specs.Text.{name, numbers, spaced, call_text}
+use Rattle.mutator.specs.declared.number.Number.{Number}
+use Rattle.mutator.specs.Numbers.{value}
+use Rattle.mutator.specs.Table.{name, numbers, calls, named}
+use Rattle.mutator.proofs.Listing.{found, most_small}
+use Rattle.script.specs.Text.{spaced, call_text}
 use Rattle.script.specs.Tokens.{blank, pieces, filled, tokens}
 use Rattle.script.specs.Reading.{body}
-use Rattle.script.specs.Spelling.{WriteAll, Fits, ReadsBack}
+use Rattle.script.specs.Spelling.{WriteAll, AllWithin, ReadsBack}
 use Rattle.script.proofs.Cuts.{Dense, filled_some, word_first}
 use Rattle.script.proofs.Values.{own}
 use Rattle.script.proofs.Spelt.{reads_what_is_spelt}
@@ -78,17 +82,25 @@ body_plain [] p = refl
 body_plain (c ∷ []) p = let e = not-true (eqb c 13) (and_parts (not (eqb c 13)) true p).0 in rw e
 body_plain (c ∷ d ∷ ds) p = ap (λ (l : List ℕ). c ∷ l) (body_plain (d ∷ ds) (and_parts (not (eqb c 13)) (plain (d ∷ ds)) p).1)
 
-seen_name : (q : Ask) → Fits q → (graphic (name q) ≡ true) × (0 < length (name q)) × Small (numbers q)
-seen_name (New s r n) w = (refl, omega arith, (omega arith, (omega arith, (omega arith, tt))))
-seen_name (Get t s i) w = (refl, omega arith, (omega arith, (omega arith, (omega arith, tt))))
-seen_name (Set s i t) w = (refl, omega arith, (omega arith, (omega arith, (omega arith, tt))))
-seen_name (Read s i) w = (refl, omega arith, (omega arith, (omega arith, tt)))
-seen_name (Write s i x) w = (refl, omega arith, (omega arith, (omega arith, (omega arith, tt))))
-seen_name (Copy t s) w = (refl, omega arith, (omega arith, (omega arith, tt)))
-seen_name (Clear t) w = (refl, omega arith, (omega arith, tt))
-seen_name (Same s t) w = (refl, omega arith, (omega arith, (omega arith, tt)))
-seen_name (Sizes s) w = (refl, omega arith, (omega arith, tt))
-seen_name Collect w = (refl, omega arith, tt)
+-- each name of the table can be seen
+abbrev seen_names : List (List Number → Ask) → Bool
+seen_names [] = true
+seen_names (f ∷ fs) = ltb 0 (length (name (f []))) && (graphic (name (f [])) && seen_names fs)
+
+seen_named : (n : List ℕ) (fs : List (List Number → Ask)) (f : List Number → Ask) → seen_names fs ≡ true → named n fs ≡ Some f → (graphic n ≡ true) × (0 < length n)
+seen_named n [] f s h = let o : ◌≡◌ {A = ℕ} 0 1 = cc in absurd (omega arith)
+seen_named n (g ∷ gs) f s h = by_test (bytes_eq n (name (g []))) refl (seen_named n gs f (and_parts (graphic (name (g []))) (seen_names gs) (and_parts (ltb 0 (length (name (g [])))) _ s).1).1)
+  where
+    by_test : (t : Bool) → bytes_eq n (name (g [])) ≡ t → (named n gs ≡ Some f → (graphic n ≡ true) × (0 < length n)) → (graphic n ≡ true) × (0 < length n)
+    by_test false e ih = ih (rw e at h)
+    by_test true e ih =
+        let p = and_parts (ltb 0 (length (name (g [])))) (graphic (name (g [])) && seen_names gs) s in
+        subst (λ (m : List ℕ). (graphic m ≡ true) × (0 < length m)) (sym ((bytes_eq-Decides n (name (g []))).0 e))
+        ((and_parts (graphic (name (g []))) (seen_names gs) p.1).0, ltb-true 0 (length (name (g []))) p.0)
+
+all_small : (ns : List Number) → AllWithin ns → Small (map value ns)
+all_small [] w = tt
+all_small (n ∷ ns) w = (omega (arith, w.0, most_small n), all_small ns w.1)
 
 text_tokens : (m ns : List ℕ) → graphic m ≡ true → 0 < length m → Small ns → tokens (body (m ++ spaced ns)) ≡ m ∷ map decimal ns
 text_tokens m ns g l s =
@@ -98,10 +110,12 @@ text_tokens m ns g l s =
 
 pub reads_back : ReadsBack
 reads_back q w =
-    let s = seen_name q w in
+    let t = found q in
+    let s = seen_named (name q) calls t.make refl t.is in
+    let small = all_small (numbers q) w in
     (reads_what_is_spelt (call_text q) q).1 (record {
-      rest = map decimal (numbers q);
-      named = text_tokens (name q) (numbers q) s.0 s.1 s.2;
-      written = decimals_written (numbers q) s.2;
+      rest = map decimal (map value (numbers q));
+      named = text_tokens (name q) (map value (numbers q)) s.0 s.1 small;
+      written = decimals_written (map value (numbers q)) small;
       fits = w;
     })

@@ -1,78 +1,50 @@
 -- How a line is read: its first token is the name of a call, the others are the numbers, read from the left.
-use Rattle.std.specs.Prelude.{ℕ, zero, suc, ◌-◌, ◌^◌, Bool, true, false, cond, ◌||◌, List, [], ◌∷◌, Some, None, Option, Ok, Err, codes, Result, ◌==◌, slice_index}
+use Rattle.std.specs.Prelude.{ℕ, ◌-◌, ◌^◌, Bool, true, false, cond, ◌||◌, List, [], ◌∷◌, ◌++◌, Some, None, Option, Ok, Err, Result, ◌==◌, slice_index}
 use Rattle.std.specs.Borrow.{Bor}
-use Rattle.std.specs.Str.{bytes_eq}
 use Rattle.mutator.specs.declared.Ask.{Ask}
-use Rattle.mutator.specs.declared.Ask.TheVariants.{New, Get, Set, Read, Write, Copy, Clear, Same, Sizes, Collect}
+use Rattle.mutator.specs.declared.number.Number.{Number}
+use Rattle.mutator.specs.Numbers.{most, like}
+use Rattle.mutator.specs.Table.{numbers, calls, named}
 use Rattle.script.specs.declared.error.LineError.{LineError}
-use Rattle.script.specs.declared.error.LineError.TheVariants.{UnknownCall, TooFewNumbers, TooManyNumbers, IndexTooLarge, ValueTooLarge, WordsTooLarge}
+use Rattle.script.specs.declared.error.LineError.TheVariants.{UnknownCall, TooFewNumbers, TooManyNumbers, NumberTooLarge, WordsTooLarge}
 use Rattle.script.specs.declared.read.HeapSize.{HeapSize}
 use Rattle.script.specs.Tokens.{tokens}
 use Rattle.script.specs.Numbers.{number}
-
--- the most that a number may be, and what it is refused with above that
-pub record Limit : Type 0 where
-  pub most : ℕ
-  pub over : LineError
-
-abbrev pub limit : ℕ → LineError → Limit
-limit m e = record { most = m; over = e }
-
--- a slot, a place, a word of an object or a size; what a word holds; how many words there are
-abbrev pub index : Limit
-index = limit 65535 IndexTooLarge
-
-abbrev pub word : Limit
-word = limit (2 ^ 64 - 1) ValueTooLarge
-
-abbrev pub words : Limit
-words = limit (2 ^ 56 - 1) WordsTooLarge
 
 abbrev pub bind : {A B E : Type 0} → Result A E → (A → Result B E) → Result B E
 bind (Ok x) f = f x
 bind (Err e) f = Err e
 
--- the number that the first token writes, and the other tokens
-abbrev pub next : Limit → List (List ℕ) → Result (ℕ × List (List ℕ)) LineError
-next l [] = Err TooFewNumbers
-next l (t ∷ ts) = bind (number l.most l.over t) (λ n. Ok (n, ts))
+-- the number that the first token writes, if it is at most `most`, and the other tokens
+abbrev pub next : ℕ → LineError → List (List ℕ) → Result (ℕ × List (List ℕ)) LineError
+next most over [] = Err TooFewNumbers
+next most over (t ∷ ts) = bind (number most over t) (λ n. Ok (n, ts))
 
--- so many numbers, each a slot, a place, a word of an object or a size, and the other tokens
-abbrev pub indices : ℕ → List (List ℕ) → Result (List ℕ × List (List ℕ)) LineError
-indices zero ts = Ok ([], ts)
-indices (suc n) ts = bind (next index ts) (λ p. bind (indices n p.1) (λ q. Ok (p.0 ∷ q.0, q.1)))
+-- one of a call's numbers, of this kind
+abbrev pub next_like : Number → List (List ℕ) → Result (Number × List (List ℕ)) LineError
+next_like k ts = bind (next (most k) (NumberTooLarge (most k)) ts) (λ p. Ok (like k p.0, p.1))
 
-abbrev pub ended : {A : Type 0} → A → List (List ℕ) → Result A LineError
-ended x [] = Ok x
-ended x (t ∷ ts) = Err TooManyNumbers
+-- nothing is left
+abbrev pub ended : List (List ℕ) → Result (Unit {0}) LineError
+ended [] = Ok tt
+ended (t ∷ ts) = Err TooManyNumbers
 
--- what takes a number for each limit, and what it makes of as many tokens
-abbrev pub Takes : List Limit → Type 0 → Type 0
-Takes [] A = A
-Takes (l ∷ ls) A = ℕ → Takes ls A
-
-abbrev pub reads : {A : Type 0} → (ls : List Limit) → Takes ls A → List (List ℕ) → Result A LineError
-reads [] x ts = ended x ts
-reads (l ∷ ls) f ts = bind (next l ts) (λ p. reads ls (f p.0) p.1)
+-- all numbers of a call, of these kinds, behind those in front
+abbrev pub reads : List Number → List Number → List (List ℕ) → Result (List Number) LineError
+reads front [] ts = bind (ended ts) (λ u. Ok front)
+reads front (k ∷ ks) ts = bind (next_like k ts) (λ p. reads (front ++ p.0 ∷ []) ks p.1)
 
 -- a function's result that has what is left of the line beside what was read, with the tokens of that
 abbrev pub seen : {A : Type 0} → Result (A × Bor (List ℕ)) LineError → Result (A × List (List ℕ)) LineError
 seen r = bind r (λ p. Ok (p.0, tokens p.1.now))
 
 -- the call with this name, of the numbers in these tokens
+abbrev pub made_of : Option (List Number → Ask) → List (List ℕ) → Result Ask LineError
+made_of None ts = Err UnknownCall
+made_of (Some f) ts = bind (reads [] (numbers (f [])) ts) (λ ns. Ok (f ns))
+
 abbrev pub called : List ℕ → List (List ℕ) → Result Ask LineError
-called n ts =
-    cond (bytes_eq n (codes "New")) (reads (index ∷ index ∷ index ∷ []) New ts)
-    (cond (bytes_eq n (codes "Get")) (reads (index ∷ index ∷ index ∷ []) Get ts)
-    (cond (bytes_eq n (codes "Set")) (reads (index ∷ index ∷ index ∷ []) Set ts)
-    (cond (bytes_eq n (codes "Read")) (reads (index ∷ index ∷ []) Read ts)
-    (cond (bytes_eq n (codes "Write")) (reads (index ∷ index ∷ word ∷ []) Write ts)
-    (cond (bytes_eq n (codes "Copy")) (reads (index ∷ index ∷ []) Copy ts)
-    (cond (bytes_eq n (codes "Clear")) (reads (index ∷ []) Clear ts)
-    (cond (bytes_eq n (codes "Same")) (reads (index ∷ index ∷ []) Same ts)
-    (cond (bytes_eq n (codes "Sizes")) (reads (index ∷ []) Sizes ts)
-    (cond (bytes_eq n (codes "Collect")) (reads [] Collect ts)
-    (Err UnknownCall))))))))))
+called n ts = made_of (named n calls) ts
 
 abbrev pub reading : List (List ℕ) → Result Ask LineError
 reading [] = Err UnknownCall
@@ -94,8 +66,12 @@ call_of line = reading (tokens (body line))
 abbrev pub heap_size : ℕ → ℕ → HeapSize
 heap_size n r = record { words = n; slots = r }
 
+-- fewer words than there are addresses, and fewer slots than 65,536
+abbrev pub sized : List (List ℕ) → Result HeapSize LineError
+sized ts = bind (next (2 ^ 56 - 1) WordsTooLarge ts) (λ p. bind (next 65535 (NumberTooLarge 65535) p.1) (λ q. bind (ended q.1) (λ u. Ok (heap_size p.0 q.0))))
+
 abbrev pub heap_size_of : List ℕ → Result HeapSize LineError
-heap_size_of line = reads (words ∷ index ∷ []) heap_size (tokens (body line))
+heap_size_of line = sized (tokens (body line))
 
 -- a line that begins with `#`, or has no token, is passed over
 abbrev pub none_of : List (List ℕ) → Bool
@@ -108,3 +84,7 @@ passed_over line = slice_index line 0 == 35 || none_of (tokens (body line))
 -- a line after the first: a call, or none if it is passed over
 abbrev pub line_of : List ℕ → Result (Option Ask) LineError
 line_of line = cond (passed_over line) (Ok None) (bind (call_of line) (λ q. Ok (Some q)))
+
+-- the first line of a script, unless it is passed over
+abbrev pub opening_of : List ℕ → Result (Option HeapSize) LineError
+opening_of line = cond (passed_over line) (Ok None) (bind (heap_size_of line) (λ h. Ok (Some h)))

@@ -1,48 +1,36 @@
 -- When a line spells a call, and the theorems on reading, as types.
-use Rattle.std.specs.Prelude.{◌≡◌, ℕ, ◌≤◌, true, List, [], ◌∷◌, Ok}
+use Rattle.std.specs.Prelude.{◌≡◌, ℕ, ◌<◌, ◌≤◌, ◌^◌, true, List, [], ◌∷◌, map, Ok}
 use Rattle.std.specs.Str.{all_ascii_digits}
 use Rattle.mutator.specs.declared.Ask.{Ask}
-use Rattle.mutator.specs.declared.Ask.TheVariants.{New, Get, Set, Read, Write, Copy, Clear, Same, Sizes, Collect}
+use Rattle.mutator.specs.declared.number.Number.{Number}
+use Rattle.mutator.specs.Numbers.{value, most}
+use Rattle.mutator.specs.Table.{name, numbers}
 use Rattle.script.specs.declared.read.HeapSize.{HeapSize}
-use Rattle.script.specs.Text.{name, numbers, call_text}
+use Rattle.script.specs.Text.{call_text}
 use Rattle.script.specs.Tokens.{tokens}
-use Rattle.script.specs.Numbers.{value}
-use Rattle.script.specs.Reading.{Limit, index, word, words, body, call_of, heap_size_of}
+use Rattle.script.specs.Numbers.{value as written}
+use Rattle.script.specs.Reading.{body, call_of, heap_size_of}
 
 -- each token is digits that come to the number at its place
 abbrev pub WriteAll : List (List ℕ) → List ℕ → Type 0
 WriteAll [] [] = Unit {0}
 WriteAll [] (n ∷ ns) = ⊥
 WriteAll (t ∷ ts) [] = ⊥
-WriteAll (t ∷ ts) (n ∷ ns) = (all_ascii_digits t ≡ true) × (value t ≡ n) × WriteAll ts ns
+WriteAll (t ∷ ts) (n ∷ ns) = (all_ascii_digits t ≡ true) × (written t ≡ n) × WriteAll ts ns
 
--- each number is within the limit at its place
-abbrev pub Within : List Limit → List ℕ → Type 0
-Within [] [] = Unit {0}
-Within [] (n ∷ ns) = ⊥
-Within (l ∷ ls) [] = ⊥
-Within (l ∷ ls) (n ∷ ns) = (n ≤ l.most) × Within ls ns
-
-abbrev pub limits : Ask → List Limit
-limits (New s r n) = index ∷ index ∷ index ∷ []
-limits (Get t s i) = index ∷ index ∷ index ∷ []
-limits (Set s i t) = index ∷ index ∷ index ∷ []
-limits (Read s i) = index ∷ index ∷ []
-limits (Write s i x) = index ∷ index ∷ word ∷ []
-limits (Copy t s) = index ∷ index ∷ []
-limits (Clear t) = index ∷ []
-limits (Same s t) = index ∷ index ∷ []
-limits (Sizes s) = index ∷ []
-limits Collect = []
+-- each number is at most what one of its kind may be
+abbrev pub AllWithin : List Number → Type 0
+AllWithin [] = Unit {0}
+AllWithin (n ∷ ns) = (value n ≤ most n) × AllWithin ns
 
 abbrev pub Fits : Ask → Type 0
-Fits q = Within (limits q) (numbers q)
+Fits q = AllWithin (numbers q)
 
 -- the line's tokens are the name of the call and its numbers
 pub record Spells (line : List ℕ) (q : Ask) : Type 0 where
   pub rest : List (List ℕ)
   pub named : tokens (body line) ≡ name q ∷ rest
-  pub written : WriteAll rest (numbers q)
+  pub written : WriteAll rest (map value (numbers q))
   pub fits : Fits q
 
 -- a line is read as the call that it spells, and refused if it spells none
@@ -55,7 +43,7 @@ ReadsBack = (q : Ask) → Fits q → call_of (call_text q) ≡ Ok q
 
 -- the same of the first line: its tokens are the number of words and the number of slots
 abbrev pub SpellsSize : List ℕ → HeapSize → Type 0
-SpellsSize line h = WriteAll (tokens (body line)) (h.words ∷ h.slots ∷ []) × Within (words ∷ index ∷ []) (h.words ∷ h.slots ∷ [])
+SpellsSize line h = WriteAll (tokens (body line)) (h.words ∷ h.slots ∷ []) × (h.words < 2 ^ 56) × (h.slots < 65536)
 
 abbrev pub ReadsSizeThatIsSpelt : Type 0
 ReadsSizeThatIsSpelt = (line : List ℕ) (h : HeapSize) → (heap_size_of line ≡ Ok h → SpellsSize line h) × (SpellsSize line h → heap_size_of line ≡ Ok h)

@@ -3,8 +3,8 @@ ghost use Rattle.std.specs.Prelude.{Some};
 ghost use Rattle.mutator.specs.Refusals.{answer_of};
 ghost use Rattle.script.specs.Text.{call_text, answer_text};
 
+use mutator::{Ask, Entry, Numbers, Told};
 use std::fmt;
-use mutator::{Ask, Told};
 
 // A call as its line is printed. `Ask` and `Told` are of another crate, which may not take impls from here.
 #[derive(Clone, Copy)]
@@ -18,17 +18,24 @@ impl fmt::Display for CallText {
     ghost output = { λ q. Some (call_text q.0) };
 
     fn fmt<W: fmt::Write>(&self, f: &mut fmt::Formatter<W>) -> fmt::Result {
-        match self.0 {
-            Ask::New(slot, places, words) => write!(f, "New {slot} {places} {words}"),
-            Ask::Get(to, slot, place) => write!(f, "Get {to} {slot} {place}"),
-            Ask::Set(slot, place, from) => write!(f, "Set {slot} {place} {from}"),
-            Ask::Read(slot, word) => write!(f, "Read {slot} {word}"),
-            Ask::Write(slot, word, value) => write!(f, "Write {slot} {word} {value}"),
-            Ask::Copy(to, from) => write!(f, "Copy {to} {from}"),
-            Ask::Clear(slot) => write!(f, "Clear {slot}"),
-            Ask::Same(slot, other) => write!(f, "Same {slot} {other}"),
-            Ask::Sizes(slot) => write!(f, "Sizes {slot}"),
-            Ask::Collect => write!(f, "Collect"),
+        let Entry { name, numbers, .. } = self.0.entry();
+        match numbers {
+            Numbers::Zero => write!(f, "{name}"),
+            Numbers::One(a) => {
+                let a = a.value();
+                write!(f, "{name} {a}")
+            }
+            Numbers::Two(a, b) => {
+                let a = a.value();
+                let b = b.value();
+                write!(f, "{name} {a} {b}")
+            }
+            Numbers::Three(a, b, c) => {
+                let a = a.value();
+                let b = b.value();
+                let c = c.value();
+                write!(f, "{name} {a} {b} {c}")
+            }
         }
     }
 }

@@ -1,12 +1,16 @@
-// Lines of a script as calls.
-ghost use Rattle.std.specs.Prelude.{◌≡◌};
+// Lines of a script as calls. A line is taken apart once.
+ghost use Rattle.std.specs.Prelude.{◌≡◌, ◌<◌, ◌∷◌, true, false, length, MatchOption};
 ghost use Rattle.script.specs.Tokens.{tokens};
-ghost use Rattle.script.specs.Reading.{body as body_of, called, call_of, heap_size_of, passed_over, line_of};
+ghost use Rattle.script.specs.Reading.{body as body_of, called, line_of, opening_of, passed_over, sized};
 
 use crate::error::LineError;
-use crate::reader::{ended, indices, next_number, one_index};
+use crate::numbers::number;
+use crate::reader::{ended, next_number, numbers_like};
 use crate::tokens::split_token;
-use mutator::Ask;
+use mutator::{Ask, CALLS, Numbers};
+
+// The most words that can have addresses.
+pub const MOST_WORDS: u64 = 0xff_ffff_ffff_ffff;
 
 // What the first line of a script says.
 #[derive(Clone, Copy, PartialEq, Eq, Debug)]
@@ -22,79 +26,62 @@ fn body(line: &str) -> &str
     line.strip_suffix('\r').unwrap_or(line)
 }
 
+// The first token of a line and what follows it, unless the line is blank or a comment.
+fn first_token(line: &str) -> Option<(&str, &str)>
+    ensures { MatchOption result (passed_over line.now ≡ true) (λ p. (passed_over line.now ≡ false) × (tokens (body_of line.now) ≡ p.0.now ∷ tokens p.1.now)) }
+{
+    if line.starts_with('#') {
+        return None;
+    }
+    split_token(body(line))
+}
+
 // The call with this name, of the numbers in the rest of its line.
 fn named_call(name: &str, rest: &str) -> Result<Ask, LineError>
     ensures { result ≡ called name.now (tokens rest.now) }
 {
-    match name {
-        "New" => {
-            let ([slot, places, words], rest) = indices::<3>(rest)?;
-            ended(rest, Ask::New(slot, places, words))
+    for place in 0..CALLS {
+        let Some(ask) = Ask::made(place, Numbers::Zero) else {
+            return Err(LineError::UnknownCall);
+        };
+        let entry = ask.entry();
+        if name == entry.name {
+            let numbers = numbers_like(entry.numbers, rest)?;
+            return Ask::made(place, numbers).ok_or(LineError::UnknownCall);
         }
-        "Get" => {
-            let ([to, slot, place], rest) = indices::<3>(rest)?;
-            ended(rest, Ask::Get(to, slot, place))
-        }
-        "Set" => {
-            let ([slot, place, from], rest) = indices::<3>(rest)?;
-            ended(rest, Ask::Set(slot, place, from))
-        }
-        "Read" => {
-            let ([slot, word], rest) = indices::<2>(rest)?;
-            ended(rest, Ask::Read(slot, word))
-        }
-        "Write" => {
-            let ([slot, word], rest) = indices::<2>(rest)?;
-            let (value, rest) = next_number(rest, u64::MAX, LineError::ValueTooLarge)?;
-            ended(rest, Ask::Write(slot, word, value))
-        }
-        "Copy" => {
-            let ([to, from], rest) = indices::<2>(rest)?;
-            ended(rest, Ask::Copy(to, from))
-        }
-        "Clear" => Ok(Ask::Clear(one_index(rest)?)),
-        "Same" => {
-            let ([slot, other], rest) = indices::<2>(rest)?;
-            ended(rest, Ask::Same(slot, other))
-        }
-        "Sizes" => Ok(Ask::Sizes(one_index(rest)?)),
-        "Collect" => ended(rest, Ask::Collect),
-        _ => Err(LineError::UnknownCall),
     }
+    Err(LineError::UnknownCall)
 }
 
-// Reads a call, as `Write 0 3 18446744073709551615`. `Ask` is of another crate, which may not take a FromStr from here.
-pub fn read_call(line: &str) -> Result<Ask, LineError>
-    ensures { result ≡ call_of line.now }
+// How many words and slots there are, of the first token and the rest of the line.
+fn heap_size(words: &str, rest: &str) -> Result<HeapSize, LineError>
+    requires { 0 < length words.now }
+    ensures { result ≡ sized (words.now ∷ tokens rest.now) }
 {
-    match split_token(body(line)) {
-        Some((name, rest)) => named_call(name, rest),
-        None => Err(LineError::UnknownCall),
-    }
+    let words = number(words, MOST_WORDS, LineError::WordsTooLarge)?;
+    let (slots, rest) = next_number(rest, 65_535, LineError::NumberTooLarge(65_535))?;
+    ended(rest)?;
+    // at most 65,535, so try_from would need an arm that no number takes
+    let slots = slots as u16;
+    Ok(HeapSize { words, slots })
 }
 
-// Reads the first line of a script, `WORDS SLOTS`.
-pub fn read_heap_size(line: &str) -> Result<HeapSize, LineError>
-    ensures { result ≡ heap_size_of line.now }
+// Reads the first line of a script, `WORDS SLOTS`. It says nothing where it is blank or a comment.
+pub fn read_opening(line: &str) -> Result<Option<HeapSize>, LineError>
+    ensures { result ≡ opening_of line.now }
 {
-    let (words, line) = next_number(body(line), 0xff_ffff_ffff_ffff, LineError::WordsTooLarge)?;
-    let ([slots], line) = indices::<1>(line)?;
-    ended(line, HeapSize { words, slots })
+    let Some((words, rest)) = first_token(line) else {
+        return Ok(None);
+    };
+    heap_size(words, rest).map(Some)
 }
 
-// Whether a line is blank or a comment.
-pub fn is_passed_over(line: &str) -> bool
-    ensures { result ≡ passed_over line.now }
-{
-    line.starts_with('#') || split_token(body(line)).is_none()
-}
-
-// Reads a line after the first. There is no call where it is blank or a comment.
+// Reads a line after the first, as `Write 0 3 18446744073709551615`. There is no call where it is blank or a comment.
 pub fn read_line(line: &str) -> Result<Option<Ask>, LineError>
     ensures { result ≡ line_of line.now }
 {
-    if is_passed_over(line) {
+    let Some((name, rest)) = first_token(line) else {
         return Ok(None);
-    }
-    read_call(line).map(Some)
+    };
+    named_call(name, rest).map(Some)
 }

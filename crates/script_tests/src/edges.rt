@@ -1,5 +1,5 @@
 // Each call printed and read back, and each refusal once.
-use script::{CallText, LineError, is_passed_over, read_call, read_heap_size};
+use script::{CallText, LineError, read_line, read_opening};
 use std::test::Fail;
 use mutator::Ask;
 
@@ -19,30 +19,32 @@ fn calls_come_back(rt: HostRuntime) -> Result<(), Fail> {
     ];
     for call in calls {
         let text = CallText(call).to_string(rt.alloc())?;
-        assert_eq!(rt; read_call(text.as_str()), Ok(call));
+        assert_eq!(rt; read_line(text.as_str()), Ok(Some(call)));
     }
     Ok(())
 }
 
 #[test]
 fn blanks_and_zeros_are_allowed(rt: HostRuntime) {
-    assert_eq!(rt; read_call("\t New  0 002\t1 \r"), Ok(Ask::New(0, 2, 1)));
-    assert!(rt; is_passed_over("# New") && is_passed_over(" \t\r") && !is_passed_over("New"));
+    assert_eq!(rt; read_line("\t New  0 002\t1 \r"), Ok(Some(Ask::New(0, 2, 1))));
+    assert_eq!(rt; read_line("# New"), Ok(None));
+    assert_eq!(rt; read_line(" \t\r"), Ok(None));
+    assert_eq!(rt; read_line("New"), Err(LineError::TooFewNumbers));
 }
 
 #[test]
 fn refusals(rt: HostRuntime) {
-    assert_eq!(rt; read_call("new 0 2 1"), Err(LineError::UnknownCall));
-    assert_eq!(rt; read_call("Copy 1"), Err(LineError::TooFewNumbers));
-    assert_eq!(rt; read_call("Collect 0"), Err(LineError::TooManyNumbers));
-    assert_eq!(rt; read_call("Clear +1"), Err(LineError::NotANumber));
-    assert_eq!(rt; read_call("Clear 65536"), Err(LineError::IndexTooLarge));
+    assert_eq!(rt; read_line("new 0 2 1"), Err(LineError::UnknownCall));
+    assert_eq!(rt; read_line("Copy 1"), Err(LineError::TooFewNumbers));
+    assert_eq!(rt; read_line("Collect 0"), Err(LineError::TooManyNumbers));
+    assert_eq!(rt; read_line("Clear +1"), Err(LineError::NotANumber));
+    assert_eq!(rt; read_line("Clear 65536"), Err(LineError::NumberTooLarge(65_535)));
     assert_eq!(rt;
-        read_call("Write 0 3 18446744073709551616"),
-        Err(LineError::ValueTooLarge)
+        read_line("Write 0 3 18446744073709551616"),
+        Err(LineError::NumberTooLarge(u64::MAX))
     );
     assert_eq!(rt;
-        read_heap_size("72057594037927936 4"),
+        read_opening("72057594037927936 4"),
         Err(LineError::WordsTooLarge)
     );
 }

@@ -1,0 +1,72 @@
+-- The table gone over for a name, place by place.
+use Rattle.std.proofs.Common.{◌≡◌, ℕ, zero, suc, ◌+◌, ◌≤◌, Bool, true, false, cond, List, [], ◌∷◌, drop, length, Some, None, Option, Ok, Err, Result, sym, refl, ap, ◌∙◌, subst, add-one, arith}
+use Rattle.std.specs.Str.{bytes_eq}
+use Rattle.std.specs.Option.{ok_or}
+use Rattle.mutator.specs.declared.Ask.{Ask}
+use Rattle.mutator.specs.declared.number.Number.{Number}
+use Rattle.mutator.specs.Table.{name, numbers, calls, named, call_at}
+use Rattle.script.specs.declared.error.LineError.{LineError}
+use Rattle.script.specs.declared.error.LineError.TheVariants.{UnknownCall}
+use Rattle.script.specs.Reading.{bind, reads, made_of, called}
+
+-- what stands at a place, and behind it
+record Here (fs : List (List Number → Ask)) (p : ℕ) (q : Ask) : Type 0 where
+  make : List Number → Ask
+  is : drop p fs ≡ make ∷ drop (suc p) fs
+  bare : make [] ≡ q
+  at : (ns : List Number) → call_at fs p ns ≡ Some (make ns)
+
+here : (fs : List (List Number → Ask)) (p : ℕ) (q : Ask) → call_at fs p [] ≡ Some q → Here fs p q
+here [] p q h = let o : ◌≡◌ {A = ℕ} 0 1 = cc in absurd (omega arith)
+here (f ∷ fs) zero q h = record { make = f; is = refl; bare = cc; at = λ ns. refl }
+here (f ∷ fs) (suc p) q h = let k = here fs p q h in record { make = k.make; is = k.is; bare = k.bare; at = k.at }
+
+-- so far the name was not there
+abbrev pub Passed : List ℕ → ℕ → Type 0
+Passed n p = named n calls ≡ named n (drop p calls)
+
+pub pass : (n : List ℕ) (p : ℕ) (q : Ask) → Passed n p → call_at calls p [] ≡ Some q → bytes_eq n (name q) ≡ false → Passed n (p + 1)
+pass n p q h k e =
+    let t = here calls p q k in
+    let f : bytes_eq n (name (t.make [])) ≡ false = ap (λ (x : Ask). bytes_eq n (name x)) t.bare ∙ e in
+    let g : named n (t.make ∷ drop (suc p) calls) ≡ named n (drop (suc p) calls) = rw f in
+    h ∙ ap (named n) t.is ∙ g ∙ ap (λ (i : ℕ). named n (drop i calls)) (sym (add-one p))
+
+-- here it is
+called_here : (n : List ℕ) (p : ℕ) (q : Ask) (ts : List (List ℕ)) → Passed n p → call_at calls p [] ≡ Some q → bytes_eq n (name q) ≡ true → (r : Result (List Number) LineError) → reads [] (numbers q) ts ≡ r → called n ts ≡ bind r (λ ns. ok_or (call_at calls p ns) UnknownCall)
+called_here n p q ts h k e r s =
+    let t = here calls p q k in
+    let f : bytes_eq n (name (t.make [])) ≡ true = ap (λ (x : Ask). bytes_eq n (name x)) t.bare ∙ e in
+    let g : named n (t.make ∷ drop (suc p) calls) ≡ Some t.make = rw f in
+    ap (λ (o : Option (List Number → Ask)). made_of o ts) (h ∙ ap (named n) t.is ∙ g)
+    ∙ ap (λ (x : Ask). bind (reads [] (numbers x) ts) (λ ns. Ok (t.make ns))) t.bare
+    ∙ ap (λ (o : Result (List Number) LineError). bind o (λ ns. Ok (t.make ns))) s
+    ∙ by_result r
+  where
+    by_result : (o : Result (List Number) LineError) → bind o (λ ns. Ok ((here calls p q k).make ns)) ≡ bind o (λ ns. ok_or (call_at calls p ns) UnknownCall)
+    by_result (Ok ns) = ap (λ (x : Option Ask). ok_or x UnknownCall) (sym ((here calls p q k).at ns))
+    by_result (Err x) = refl
+
+pub called_ok : (n : List ℕ) (p : ℕ) (q : Ask) (ts : List (List ℕ)) (ns : List Number) → Passed n p → call_at calls p [] ≡ Some q → bytes_eq n (name q) ≡ true → Ok ns ≡ reads [] (numbers q) ts → ok_or (call_at calls p ns) UnknownCall ≡ called n ts
+called_ok n p q ts ns h k e s = sym (called_here n p q ts h k e (Ok ns) (sym s))
+
+pub called_err : (n : List ℕ) (p : ℕ) (q : Ask) (ts : List (List ℕ)) (x : LineError) → Passed n p → call_at calls p [] ≡ Some q → bytes_eq n (name q) ≡ true → Err x ≡ reads [] (numbers q) ts → Err x ≡ called n ts
+called_err n p q ts x h k e s = sym (called_here n p q ts h k e (Err x) (sym s))
+
+-- it is nowhere
+none_at : (n : List ℕ) (fs : List (List Number → Ask)) (p : ℕ) → call_at fs p [] ≡ None → named n (drop p fs) ≡ None
+none_at n [] zero h = refl
+none_at n [] (suc p) h = refl
+none_at n (f ∷ fs) zero h = let o : ◌≡◌ {A = ℕ} 0 1 = cc in absurd (omega arith)
+none_at n (f ∷ fs) (suc p) h = none_at n fs p h
+
+pub called_none : (n : List ℕ) (p : ℕ) (ts : List (List ℕ)) → Passed n p → call_at calls p [] ≡ None → Err UnknownCall ≡ called n ts
+called_none n p ts h k = sym (ap (λ (o : Option (List Number → Ask)). made_of o ts) (h ∙ none_at n calls p k))
+
+past : (fs : List (List Number → Ask)) (p : ℕ) → length fs ≤ p → call_at fs p [] ≡ None
+past [] p l = refl
+past (f ∷ fs) zero l = absurd (omega arith)
+past (f ∷ fs) (suc p) l = past fs p (omega arith)
+
+pub called_past : (n : List ℕ) (p : ℕ) (ts : List (List ℕ)) → Passed n p → 10 ≤ p → Err UnknownCall ≡ called n ts
+called_past n p ts h l = called_none n p ts h (past calls p (omega arith))
