@@ -1,5 +1,5 @@
 -- Of alike worlds the parts of a call say the same and leave alike worlds.
-use Rattle.std.proofs.Common.{◌≡◌, ℕ, zero, suc, ◌+◌, Bool, true, false, leb, List, refl, subst}
+use Rattle.std.proofs.Common.{ℕ, zero, suc, ◌+◌, Bool, true, false, leb, List, refl, subst}
 use mathlib.Core.Option.{Option, some, none}
 use Rattle.world.specs.Base.{pick, opt, nth}
 use Rattle.world.specs.World.{Obj, World, with_slot, with_obj, made, size, weight, Pair, In, Meet, both_none, both, Meets, none_left, and_these, Match, AlikeBy}
