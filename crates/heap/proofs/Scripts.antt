@@ -4,7 +4,8 @@ use Rattle.std.proofs.lemmas.List.{take_more_set, drop_all}
 use Rattle.mutator.specs.declared.Ask.{Ask}
 use Rattle.mutator.specs.declared.Ask.TheVariants.{New}
 use Rattle.mutator.specs.declared.Told.{Told}
-use Rattle.world.specs.World.{World, Alike, blank}
+use Rattle.world.specs.World.{World, blank}
+use Rattle.world.specs.Alike.{Alike}
 use Rattle.mutator.specs.Table.{entry, numbers}
 use Rattle.mutator.specs.TableLaws.{all_there}
 use Rattle.mutator.specs.Script.{Answer, Outcome, told, answer, answers}
