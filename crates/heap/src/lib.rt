@@ -5,4 +5,4 @@ mod calling;
 mod playing;
 
 pub use calling::call;
-pub use playing::play;
+pub use playing::{Turn, play, play_as, play_on};
