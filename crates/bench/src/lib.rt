@@ -5,7 +5,6 @@ mod kind;
 mod playing;
 mod random;
 mod tally;
-mod touching;
 
 pub use kind::CallKind;
 pub use playing::Game;

@@ -6,4 +6,4 @@ mod core_calls;
 mod playing;
 
 pub use calling::{call, call_with};
-pub use playing::play;
+pub use playing::{Turn, play, play_as, play_on};
