@@ -7,7 +7,8 @@ use Rattle.mutator.specs.declared.Ask.TheVariants.{New, Get, Set, Read, Write, C
 use Rattle.mutator.specs.declared.Told.{Told}
 use Rattle.std.proofs.lemmas.Bool.{cases_lt, lt-leb}
 use Rattle.world.specs.Base.{pick, opt, nth, put}
-use Rattle.world.specs.World.{Obj, World, world, Alike, blank, with_slot, made, fresh, size, weight}
+use Rattle.world.specs.World.{Obj, World, world, blank, with_slot, made, fresh, size, weight}
+use Rattle.world.specs.Alike.{Alike}
 use Rattle.mutator.specs.Script.{Answer, Outcome, outcome, slot, allocated, answer, answers}
 use Rattle.mutator.specs.Refusals.{answer_of}
 use Rattle.mutator.proofs.Calls.{agrees}
