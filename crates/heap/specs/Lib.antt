@@ -1,2 +1,3 @@
 -- What the manager promises: one call, and a whole script.
 pub mod Says
+pub mod Touches
