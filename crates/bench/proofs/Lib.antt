@@ -1,2 +1,3 @@
 -- Proofs on what the programs that measure and compare share.
 mod Sorting
+mod Counted

@@ -5,9 +5,8 @@ mod kind;
 mod playing;
 mod random;
 mod tally;
-mod touching;
 
-pub use kind::Kind;
+pub use kind::CallKind;
 pub use playing::Game;
 pub use random::Random;
 pub use tally::Tally;

@@ -4,14 +4,14 @@
 ghost use Rattle.std.specs.Prelude.{◌≤◌, max};
 
 use anyhow::anyhow;
-use bench::{Game, Kind, Random};
+use bench::{CallKind, Game, Random};
 use driver::exit_code;
 use script::{AnswerText, CallText};
 use std::alloc::{AllocError, Global};
 use std::io::{BufWriter, Stdout, Write};
 use std::process::ExitCode;
 use std::{env, fmt, io};
-use mutator::{Ask, Told};
+use mutator::{Ask, CALLS, Told};
 use reference::PlainWorld;
 use world::room_for;
 
@@ -22,14 +22,12 @@ const COUNT: u64 = 2000;
 // An answer's code is below this.
 const CODES: usize = 5;
 
-const KINDS: usize = 10;
-
 // What was counted: how often each answer's code came, by kind of call and in all, and where the two differed.
 #[derive(Default, Drop)]
 struct Counts {
     calls: u64,
     differences: u64,
-    by_kind: [[u64; CODES]; KINDS],
+    by_kind: [[u64; CODES]; CALLS],
     all: [u64; CODES],
 }
 
@@ -103,7 +101,12 @@ impl Counts {
     // One answer more.
     fn add(&mut self, ask: &Ask, told: Told) {
         self.calls = self.calls.saturating_add(1);
-        add_to(&mut self.by_kind[usize::from(Kind::from(ask))], told);
+        let name = ask.entry().name;
+        for (place, row) in self.by_kind.iter_mut().enumerate() {
+            if CallKind::at(place).is_some_and(|kind| kind.name == name) {
+                add_to(row, told);
+            }
+        }
         add_to(&mut self.all, told);
     }
 }
@@ -197,8 +200,10 @@ fn print_counts(out: &mut BufWriter<Stdout>, scripts: u64, counts: &Counts) -> i
         out,
         "Answers by call: full, done, no such slot, nothing in the slot, no such place or word"
     )?;
-    for (kind, row) in Kind::ALL.iter().zip(&counts.by_kind) {
-        print_row(out, kind, row)?;
+    for (place, row) in counts.by_kind.iter().enumerate() {
+        if let Some(kind) = CallKind::at(place) {
+            print_row(out, &kind, row)?;
+        }
     }
     print_row(out, &"All", &counts.all)?;
     let calls = counts.calls;

@@ -5,8 +5,7 @@ ghost use Rattle.std.specs.Prelude.{MatchResult};
 ghost use Rattle.picture.specs.Played.{Shows};
 ghost use Rattle.draw.specs.Undrawn.{Undrawn};
 
-use bench::Game;
-use driver::{Fault, Script, exit_code, open_input, open_output, read_script};
+use driver::{Fault, Script, exit_code, lent_words, open_input, open_output, read_script};
 use picture::{Moment, Picture, Spot, Unseen};
 use script::HeapSize;
 use std::alloc::Global;
@@ -108,13 +107,15 @@ impl Wanted {
 fn look(heap: Global, size: HeapSize, calls: &[Ask], collected: bool) -> Result<Vec<Spot>, Failure>
     ensures { MatchResult result (λ v. Shows size.words size.slots calls.now collected v.items) (λ e. Undrawn size e) }
 {
-    let game = Game {
-        words: size.words,
+    let mut words =
+        lent_words(heap, size.words).map_err(|_| Failure::Script(Fault::NoMemory(1)))?;
+    let moment = Moment {
         slots: size.slots,
         calls,
+        collected,
     };
-    Moment { game, collected }
-        .spots(heap)
+    moment
+        .spots(words.as_mut_slice(), heap)
         .map_err(|unseen| match unseen {
             Unseen::TooFewWords => Failure::TooFewWords(size),
             Unseen::NoMemory => Failure::Script(Fault::NoMemory(1)),

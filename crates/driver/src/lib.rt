@@ -2,12 +2,14 @@
 #![tactic(auto)]
 
 mod fault;
+mod lent;
 mod lines;
 mod machine;
 mod printing;
 mod reading;
 
 pub use fault::Fault;
+pub use lent::lent_words;
 pub use lines::play_line;
 pub use machine::Machine;
 pub use printing::{exit_code, open_output, print_answers, report};

@@ -1,107 +1,133 @@
 -- A script, answer by answer.
-use Rattle.std.proofs.Common.{◌≡◌, ℕ, zero, suc, ◌+◌, ◌<◌, ◌≤◌, Bool, List, [], ◌∷◌, ◌++◌, map, length, get_or, take, drop, set, replicate, sym, refl, ap, ◌∙◌, subst, ap₂, inl, inr, append_assoc, append-nil, add-one, arith, drop-cons, drop-set-lt}
-use mathlib.Core.Option.{Option, some, none}
-use Rattle.std.proofs.lemmas.List.{take_more_set, drop_all}
+use Rattle.std.proofs.Common.{◌≡◌, ℕ, ◌+◌, ◌*◌, ◌<◌, ◌≤◌, Bool, true, false, List, [], ◌∷◌, ◌++◌, map, length, take, drop, set, sym, refl, ap, ◌∙◌, subst, ap₂, arith, drop-set-lt}
+use Rattle.std.proofs.lemmas.List.{length-append, take_more_set}
 use Rattle.mutator.specs.declared.Ask.{Ask}
-use Rattle.mutator.specs.declared.Ask.TheVariants.{New, Get, Set, Read, Write, Copy, Clear, Same, Sizes, Collect}
 use Rattle.mutator.specs.declared.Told.{Told}
-use Rattle.std.proofs.lemmas.Bool.{cases_lt, lt-leb}
-use Rattle.world.specs.Base.{pick, opt, nth, put}
-use Rattle.world.specs.World.{Obj, World, world, Alike, blank, with_slot, made, fresh, size, weight}
-use Rattle.mutator.specs.Script.{Answer, Outcome, outcome, slot, allocated, answer, answers}
-use Rattle.mutator.specs.Refusals.{answer_of}
-use Rattle.mutator.proofs.Calls.{agrees}
-use Rattle.world.proofs.Equivalence.{alike_self}
-use Rattle.world.proofs.Changes.{blank_valid}
+use Rattle.world.specs.World.{World, blank}
+use Rattle.world.specs.Alike.{Alike}
+use Rattle.world.specs.Laws.{Valid}
 use Rattle.world.specs.Room.{room}
-use Rattle.layout.specs.Cells.{world_of}
-use Rattle.heap.specs.Says.{Does, Tells}
+use Rattle.mutator.specs.Table.{entry, numbers}
+use Rattle.mutator.specs.TableLaws.{all_there}
+use Rattle.mutator.specs.Script.{Answer, Outcome, told, answer, answers}
+use Rattle.mutator.specs.Refusals.{said, answer_of}
+use Rattle.mutator.proofs.Roomless.{answered as answered_roomless}
+use Rattle.mutator.proofs.Calls.{agree}
+use Rattle.world.proofs.Equivalence.{alike_self, alike_through}
+use Rattle.world.proofs.Changes.{blank_valid}
+use Rattle.layout.specs.Cells.{base, world_of}
+use Rattle.layout.proofs.Worlds.{valid_of}
+use Rattle.store.specs.Ready.{Ready}
+use Rattle.heap.specs.Says.{Does, Calls, PlaySays}
+use Rattle.heap.specs.Playing.{Stands, standing, Turns, world_after, answered, Bounded, Given, Played, PlaysAs}
+use Rattle.heap.specs.declared.playing.Turn.{Turn}
 
-pub empty_there : (n s : ℕ) → s < n → nth {A = ℕ} (replicate n 0) s ≡ some 0
-empty_there zero s l = absurd (omega arith)
-empty_there (suc n) zero l = refl
-empty_there (suc n) (suc s) l = empty_there n s (omega arith)
-
-pub empty_none : (n s : ℕ) → n ≤ s → nth {A = ℕ} (replicate n 0) s ≡ none
-empty_none zero s l = refl
-empty_none (suc n) zero l = absurd (omega arith)
-empty_none (suc n) (suc s) l = empty_none n s (omega arith)
-
--- what is told so far, and what is to be told from here on
-abbrev pub Telling : ℕ → World → World → List Ask → ℕ → List Told → List Told → Type 0
-Telling cap w v qs i o o' = (map answer_of (take i o') ++ answers cap v (drop i qs) ≡ answers cap w qs) × (drop (length qs) o' ≡ drop (length qs) o)
-
-pub telling_first : (cap : ℕ) (w : World) (qs : List Ask) (o : List Told) → Telling cap w w qs 0 o o
-telling_first cap w qs o = (refl, refl)
-
-map_push : (xs : List Told) (x : Told) → map answer_of (xs ++ x ∷ []) ≡ map answer_of xs ++ answer_of x ∷ []
-map_push [] x = refl
-map_push (y ∷ ys) x = ap (λ (zs : List Answer). answer_of y ∷ zs) (map_push ys x)
-
-pub telling_more : (cap : ℕ) (w u v : World) (qs : List Ask) (i : ℕ) (o o' : List Told) (t : Told) (q : Ask) → i < length qs → i < length o' → q ≡ get_or qs i (New 0 0 0) → Does cap q u v (answer_of t) → Telling cap w u qs i o o' → Telling cap w v qs (i + 1) o (set o' i t)
-telling_more cap w u v qs i o o' t q l k e d h =
-    let next : answers cap u (drop i qs) ≡ answer_of t ∷ answers cap v (drop (i + 1) qs) =
-    ap (answers cap u) (drop-cons qs i (New 0 0 0) l)
-    ∙ ap (λ (x : Ask). answers cap u (x ∷ drop (suc i) qs)) (sym e)
-    ∙ ap₂ ◌∷◌ (sym d.told) (agrees cap (answer cap u q).after v (drop (suc i) qs) d.after)
-    ∙ ap (λ (n : ℕ). answer_of t ∷ answers cap v (drop n qs)) (sym (add-one i)) in
-    let front : map answer_of (take (i + 1) (set o' i t)) ≡ map answer_of (take i o') ++ answer_of t ∷ [] = ap (map answer_of) (take_more_set o' i t k) ∙ map_push (take i o') t in (
-      ap (λ (xs : List Answer). xs ++ answers cap v (drop (i + 1) qs)) front
-          ∙ append_assoc (map answer_of (take i o')) (answer_of t ∷ []) (answers cap v (drop (i + 1) qs))
-          ∙ ap (λ (xs : List Answer). map answer_of (take i o') ++ xs) (sym next)
-          ∙ h.0,
-      drop-set-lt (length qs) o' i t l ∙ h.1,
-    )
-
-pub telling_last : (cap : ℕ) (w u : World) (qs : List Ask) (i : ℕ) (o o' : List Told) → i ≤ length qs → length qs ≤ i → Telling cap w u qs i o o' → Tells cap w qs o o'
-telling_last cap w u qs i o o' l k h =
-    let e : i ≡ length qs = omega arith in
-    let rest : answers cap u (drop i qs) ≡ [] = ap (answers cap u) (drop_all i qs k) in (
-      ap (λ (n : ℕ). map answer_of (take n o')) (sym e)
-          ∙ sym (append-nil (map answer_of (take i o')))
-          ∙ ap (λ (xs : List Answer). map answer_of (take i o') ++ xs) (sym rest)
-          ∙ h.0,
-      h.1,
-    )
-
-pub tells_alike : (cap : ℕ) (w u : World) (qs : List Ask) (o o' : List Told) → Alike w u → Tells cap u qs o o' → Tells cap w qs o o'
-tells_alike cap w u qs o o' a h = (h.0 ∙ sym (agrees cap w u qs a), h.1)
-
--- without room the blank world stays as it is
-at_slot : (n s : ℕ) (f : ℕ → Outcome) → (f 0).after ≡ blank n → (slot (blank n) s f).after ≡ blank n
-at_slot n s f h =
-    elim (cases_lt s n) [
-      | inl l ↦ ap (λ (o : Option ℕ). (opt o (outcome 2 0 (blank n)) f).after) (empty_there n s l) ∙ h
-      | inr l ↦ ap (λ (o : Option ℕ). (opt o (outcome 2 0 (blank n)) f).after) (empty_none n s l)
-    ]
-
-put_empty : (n s : ℕ) → put {A = ℕ} (replicate n 0) s 0 ≡ replicate n 0
-put_empty zero s = refl
-put_empty (suc n) zero = refl
-put_empty (suc n) (suc s) = ap (λ (xs : List ℕ). 0 ∷ xs) (put_empty n s)
-
-slot_empty : (n s : ℕ) → with_slot (blank n) s 0 ≡ blank n
-slot_empty n s = ap (λ (xs : List ℕ). world xs []) (put_empty n s)
-
-no_room : (n s : ℕ) (o : Obj) → (allocated 0 (blank n) s o).after ≡ blank n
-no_room n s o = ap (λ (b : Bool). (pick b (outcome 1 0 (made (blank n) s o)) (outcome 0 0 (blank n))).after) (lt-leb (weight (blank n) + size o) 0 (omega arith))
-
-blank_stays : (n : ℕ) (q : Ask) → (answer 0 (blank n) q).after ≡ blank n
-blank_stays n (New s r k) = at_slot n s (λ old. allocated 0 (blank n) s (fresh r k)) (no_room n s (fresh r k))
-blank_stays n (Get t s i) = at_slot n t _ (at_slot n s _ refl)
-blank_stays n (Set s i t) = at_slot n s _ (at_slot n t _ refl)
-blank_stays n (Read s i) = at_slot n s _ refl
-blank_stays n (Write s i x) = at_slot n s _ refl
-blank_stays n (Copy t s) = at_slot n t _ (at_slot n s _ (slot_empty n t))
-blank_stays n (Clear t) = at_slot n t _ (slot_empty n t)
-blank_stays n (Same s t) = at_slot n s _ (at_slot n t _ refl)
-blank_stays n (Sizes s) = at_slot n s _ refl
-blank_stays n Collect = refl
-
+-- without room the blank world stays as it is, and calls are answered as the table says
 pub blank_does : (n : ℕ) (q : Ask) (a : Answer) → a ≡ (answer 0 (blank n) q).told → Does 0 q (blank n) (blank n) a
-blank_does n q a e = record { told = e; after = subst (λ (w : World). Alike w (blank n)) (sym (blank_stays n q)) (alike_self (blank n) (blank_valid n)) }
+blank_does n q a e = record { told = e; after = subst (λ (w : World). Alike w (blank n)) (sym (ap (λ (o : Outcome). o.after) (answered_roomless n q))) (alike_self (blank n) (blank_valid n)) }
 
--- a call's promise at slots and a length that are known to be others
-pub does_at : (q : Ask) (s s₀ n n₀ : ℕ) (row row' : List ℕ) (a : Answer) → s ≡ s₀ → n ≡ n₀ → Does (room n s) q (world_of s row) (world_of s row') a → Does (room n₀ s₀) q (world_of s₀ row) (world_of s₀ row') a
-does_at q s s₀ n n₀ row row' a e f d =
-    subst (λ (x : ℕ). Does (room x s₀) q (world_of s₀ row) (world_of s₀ row') a) f (subst (λ (x : ℕ). Does (room n x) q (world_of x row) (world_of x row') a) e d)
+pub roomless_there : (n : ℕ) (q : Ask) (a : Answer) → all_there n (numbers q) ≡ true → a ≡ said (entry q).empty → a ≡ (answer 0 (blank n) q).told
+roomless_there n q a h e = e ∙ sym (ap (λ (o : Outcome). o.told) (answered_roomless n q) ∙ rw h)
+
+pub roomless_not : (n : ℕ) (q : Ask) → all_there n (numbers q) ≡ false → told 2 0 ≡ (answer 0 (blank n) q).told
+roomless_not n q h = sym (ap (λ (o : Outcome). o.told) (answered_roomless n q) ∙ rw h)
+
+-- a turn on a manager that works, and where there are too few words
+pub turns_ready : (q : Ask) (slots : ℕ) (row row' : List ℕ) (t : Turn) → Ready slots row 0 → Calls q slots row row' (answer_of t.told) → t.touched ≤ 9 * length row + 6 → Turns true q slots row row' t
+turns_ready q slots row row' t r c l =
+    record {
+      stands = record { ok = c.stays; room = record { fits = omega (arith, r.room.fits, c.long); short = omega (arith, r.room.short, c.long); few = r.room.few } };
+      long = c.long;
+      does = c.does;
+      touched = l;
+    }
+
+pub turns_roomless : (q : Ask) (slots : ℕ) (row : List ℕ) (t : Turn) → length row < base slots → answer_of t.told ≡ (answer 0 (blank slots) q).told → t.touched ≡ 0 → Turns false q slots row row t
+turns_roomless q slots row t s e l =
+    let k : 0 ≡ room (length row) slots = omega (arith, s) in
+    record {
+      stands = s;
+      long = refl;
+      does = subst (λ (n : ℕ). Does n q (blank slots) (blank slots) (answer_of t.told)) k (blank_does slots q (answer_of t.told) e);
+      touched = omega (arith, l);
+    }
+
+-- calls one after the other: none, and one more
+after_more : (cap : ℕ) (w : World) (qs : List Ask) (q : Ask) → world_after cap w (qs ++ q ∷ []) ≡ (answer cap (world_after cap w qs) q).after
+after_more cap w [] q = refl
+after_more cap w (p ∷ qs) q = after_more cap (answer cap w p).after qs q
+
+answers_more : (cap : ℕ) (w : World) (qs : List Ask) (q : Ask) → answers cap w (qs ++ q ∷ []) ≡ answers cap w qs ++ (answer cap (world_after cap w qs) q).told ∷ []
+answers_more cap w [] q = refl
+answers_more cap w (p ∷ qs) q = ap (λ (as₁ : List Answer). (answer cap w p).told ∷ as₁) (answers_more cap (answer cap w p).after qs q)
+
+answered_more : (ts : List Turn) (t : Turn) → answered (ts ++ t ∷ []) ≡ answered ts ++ answer_of t.told ∷ []
+answered_more [] t = refl
+answered_more (u ∷ ts) t = ap (λ (as₁ : List Answer). answer_of u.told ∷ as₁) (answered_more ts t)
+
+bounded_more : (n : ℕ) (ts : List Turn) (t : Turn) → Bounded n ts → t.touched ≤ 9 * n + 6 → Bounded n (ts ++ t ∷ [])
+bounded_more n [] t b l = (l, tt)
+bounded_more n (u ∷ ts) t b l = (b.0, bounded_more n ts t b.1 l)
+
+given_more : {X : Type 0} (g : Turn → X → Type 0) (ts : List Turn) (xs : List X) (t : Turn) (x : X) → Given g ts xs → g t x → Given g (ts ++ t ∷ []) (xs ++ x ∷ [])
+given_more g [] [] t x h k = (k, tt)
+given_more g [] (y ∷ ys) t x h k = absurd h
+given_more g (u ∷ ts) [] t x h k = absurd h
+given_more g (u ∷ ts) (y ∷ ys) t x h k = (h.0, given_more g ts ys t x h.1 k)
+
+valid_standing : (ready : Bool) (slots : ℕ) (row : List ℕ) → Valid (standing ready slots row)
+valid_standing true slots row = valid_of slots row
+valid_standing false slots row = blank_valid slots
+
+pub played_none : {X : Type 0} (g : Turn → X → Type 0) (n : ℕ) (ready : Bool) (slots : ℕ) (row : List ℕ) (o : List X) → Stands ready slots row → Played g n ready [] slots row row o o
+played_none g n ready slots row o s =
+    record {
+      turns = [];
+      stands = s;
+      long = refl;
+      alike = alike_self (standing ready slots row) (valid_standing ready slots row);
+      told = refl;
+      bounded = tt;
+      given = tt;
+      rest = refl;
+    }
+
+pub played_more : {X : Type 0} (g : Turn → X → Type 0) (n : ℕ) (ready : Bool) (qs : List Ask) (q : Ask) (slots : ℕ) (row row1 row2 : List ℕ) (o o' : List X) (t : Turn) (x : X) (i : ℕ) → i ≡ length qs → i < n → i < length o' → Played g n ready qs slots row row1 o o' → Turns ready q slots row1 row2 t → g t x → Played g n ready (qs ++ q ∷ []) slots row row2 o (set o' i x)
+played_more g n ready qs q slots row row1 row2 o o' t x i e l m p h k =
+    let cap = room (length row) slots in
+    let w = world_after cap (standing ready slots row) qs in
+    let d : Does cap q (standing ready slots row1) (standing ready slots row2) (answer_of t.told) = subst (λ (j : ℕ). Does (room j slots) q (standing ready slots row1) (standing ready slots row2) (answer_of t.told)) p.long h.does in
+    let a = agree cap w (standing ready slots row1) q p.alike in
+    let given' = given_more g p.turns (take i o') t x (subst (λ (j : ℕ). Given g p.turns (take j o')) (sym e) p.given) k in
+    let s : length (qs ++ q ∷ []) ≡ i + 1 = length-append qs (q ∷ []) ∙ ap (λ (j : ℕ). j + 1) (sym e) in
+    record {
+      turns = p.turns ++ t ∷ [];
+      stands = h.stands;
+      long = h.long ∙ p.long;
+      alike = rw (after_more cap (standing ready slots row) qs q) (alike_through _ _ _ a.after d.after);
+      told = answered_more p.turns t ∙ ap₂ (λ (u v : List Answer). u ++ v) p.told (ap (λ (b : Answer). b ∷ []) (d.told ∙ sym a.said)) ∙ sym (answers_more cap (standing ready slots row) qs q);
+      bounded = bounded_more (length row) p.turns t p.bounded (omega (arith, h.touched, p.long));
+      given = subst (λ (xs : List _). Given g (p.turns ++ t ∷ []) xs) (sym (take_more_set o' i x m) ∙ ap (λ (j : ℕ). take j (set o' i x)) (sym s)) given';
+      rest = drop-set-lt n o' i x l ∙ p.rest;
+    }
+
+-- on lent words it begins with the blank world
+pub plays_as : {X : Type 0} (g : Turn → X → Type 0) (n : ℕ) (ready : Bool) (qs : List Ask) (slots : ℕ) (row row' : List ℕ) (o o' : List X) → length row ≡ n → standing ready slots row ≡ blank slots → Played g (length qs) ready qs slots row row' o o' → PlaysAs g n slots qs o o'
+plays_as g n ready qs slots row row' o o' l b p =
+    record {
+      turns = p.turns;
+      told = p.told ∙ ap₂ (λ (j : ℕ) (w : World). answers (room j slots) w qs) l b;
+      bounded = subst (λ (j : ℕ). Bounded j p.turns) l p.bounded;
+      given = p.given;
+      rest = p.rest;
+    }
+
+-- the answers alone
+told_given : (ts : List Turn) (xs : List Told) → Given (λ t x. x ≡ t.told) ts xs → map answer_of xs ≡ answered ts
+told_given [] [] h = refl
+told_given [] (x ∷ xs) h = absurd h
+told_given (t ∷ ts) [] h = absurd h
+told_given (t ∷ ts) (x ∷ xs) h = ap₂ (λ (a : Answer) (as₁ : List Answer). a ∷ as₁) (ap answer_of h.0) (told_given ts xs h.1)
+
+pub play_says : (n slots : ℕ) (qs : List Ask) (o o' : List Told) → PlaysAs (λ t x. x ≡ t.told) n slots qs o o' → PlaySays n slots qs o o'
+play_says n slots qs o o' p = (told_given p.turns (take (length qs) o') p.given ∙ p.told, p.rest)

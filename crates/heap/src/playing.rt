@@ -1,96 +1,112 @@
 // A whole script on lent words, from the beginning.
-ghost use Rattle.std.specs.Prelude.{◌≡◌, ◌<◌, ◌≤◌, length, MatchResult};
-ghost use Rattle.std.proofs.Math.Option.{some, none};
-ghost use Rattle.mutator.specs.declared.refusal.Refusal.TheVariants.{NoSlot};
-ghost use Rattle.world.specs.Base.{nth};
+ghost use Rattle.std.specs.Prelude.{◌≡◌, ◌<◌, ◌≤◌, length};
+ghost use Rattle.mutator.specs.Numbers.{listed};
+ghost use Rattle.mutator.specs.TableLaws.{there as there_in, all_there as all_there_in};
 ghost use Rattle.world.specs.World.{blank};
 ghost use Rattle.mutator.specs.Script.{answer};
 ghost use Rattle.mutator.specs.Refusals.{said};
-ghost use Rattle.layout.specs.Cells.{world_of};
-ghost use Rattle.world.specs.Room.{room};
-ghost use Rattle.store.specs.Ready.{Ready};
-ghost use Rattle.heap.specs.Says.{PlaySays, Tells};
+ghost use Rattle.heap.specs.Says.{PlaySays};
+ghost use Rattle.heap.specs.Playing.{Stands, Turns, Played, PlaysAs};
 
 use crate::calling::call;
 use store::{Manager, fits, start};
 use words::lent::Lent;
-use mutator::{Ask, Refusal, Told};
+use mutator::{Ask, Entry, Number, Numbers, Refusal, Told};
 
-// Is there such a slot? It is empty then.
-fn empty(slots: u16, s: u16) -> Result<(), Refusal>
-    ensures { MatchResult result (λ _. nth (blank slots).slots s ≡ some 0) (λ e. (e ≡ NoSlot) × (nth (blank slots).slots s ≡ none)) }
+// Is it no slot, or one that is there?
+fn there(slots: u16, number: Number) -> bool
+    ensures { result ≡ there_in slots number }
 {
-    if s < slots {
-        Ok(())
+    match number {
+        Number::Slot(s) => s < slots,
+        _ => true,
+    }
+}
+
+fn all_there(slots: u16, numbers: Numbers) -> bool
+    ensures { result ≡ all_there_in slots (listed numbers) }
+{
+    match numbers {
+        Numbers::Zero => true,
+        Numbers::One(a) => there(slots, a),
+        Numbers::Two(a, b) => there(slots, a) && there(slots, b),
+        Numbers::Three(a, b, c) => there(slots, a) && there(slots, b) && there(slots, c),
+    }
+}
+
+// One call where there are not words enough to start: all slots are empty, and stay so. What comes of it is in the table.
+fn without_words(slots: u16, q: &Ask) -> Result<u64, Refusal>
+    ensures { said result ≡ (answer 0 (blank slots) q.now).told }
+{
+    let Entry { numbers, empty, .. } = q.entry();
+    if all_there(slots, numbers) {
+        empty
     } else {
         Err(Refusal::NoSlot)
     }
 }
 
-// One call where there are not words enough to start: all slots are empty, and stay so. A match, as each call has other slots.
-fn without_words(slots: u16, q: &Ask) -> Result<u64, Refusal>
-    ensures { said result ≡ (answer 0 (blank slots) q.now).told }
-{
-    match *q {
-        Ask::New(s, _, _) => {
-            empty(slots, s)?;
-            Err(Refusal::Full)
-        }
-        Ask::Read(s, _) | Ask::Write(s, _, _) | Ask::Sizes(s) => {
-            empty(slots, s)?;
-            Err(Refusal::Nothing)
-        }
-        Ask::Get(s, t, _) | Ask::Set(s, _, t) => {
-            empty(slots, s)?;
-            empty(slots, t)?;
-            Err(Refusal::Nothing)
-        }
-        Ask::Copy(s, t) => {
-            empty(slots, s)?;
-            empty(slots, t)?;
-            Ok(0)
-        }
-        Ask::Same(s, t) => {
-            empty(slots, s)?;
-            empty(slots, t)?;
-            Ok(1)
-        }
-        Ask::Clear(s) => {
-            empty(slots, s)?;
-            Ok(0)
-        }
-        Ask::Collect => Ok(0),
+// What a call says, and how many words it touched.
+#[derive(Clone, Copy)]
+pub struct Turn {
+    pub told: Told,
+    pub touched: u64,
+}
+
+impl From<Turn> for Told {
+    ghost from_gives = { λ turn told. told ≡ turn.told };
+
+    fn from(turn: Turn) -> Told {
+        turn.told
     }
 }
 
-// A whole script where there are not words enough. Here and below an answer goes to the place that `enumerate` says: zipped with
-// `iter_mut` (tried), an invariant has no name for the elements that are done.
-fn play_without_words(script: &[Ask], slots: u16, out: &mut [Told])
-    requires { length script.now ≤ length out.old }
-    ensures { Tells 0 (blank slots) script.now out.old out.new }
-{
-    for (i, q) in script.iter().enumerate() {
-        out[i] = Told::from(without_words(slots, q));
+impl From<Turn> for u64 {
+    ghost from_gives = { λ turn touched. touched ≡ turn.touched };
+
+    fn from(turn: Turn) -> u64 {
+        turn.touched
     }
 }
 
-// A whole script on a manager, whatever its world is.
-fn play_on(script: &[Ask], m: &mut Manager<Lent<'_>>, out: &mut [Told])
+// One call, on a manager that works, or where there are not words enough.
+fn take_turn(m: &mut Manager<Lent<'_>>, ready: bool, q: &Ask) -> Turn
+    requires { Stands ready m.old.slots m.old.words.words.now }
+    ensures slots { m.new.slots ≡ m.old.slots }
+    ensures turns { Turns ready q.now m.old.slots m.old.words.words.now m.new.words.words.now result }
+{
+    m.words.count = 0;
+    if ready {
+        let told = call(m, q);
+        return Turn {
+            told,
+            touched: m.words.count,
+        };
+    }
+    Turn {
+        told: Told::from(without_words(m.slots, q)),
+        touched: 0,
+    }
+}
+
+// The one loop that plays a script. Of each turn that is kept which `T` is made of it: the answer, or the touches. An answer
+// goes to the place that `enumerate` says: zipped with `iter_mut` (tried), an invariant has no name for the elements that
+// are done.
+pub fn play_on<T: From<Turn> + Copy>(script: &[Ask], m: &mut Manager<Lent<'_>>, ready: bool, out: &mut [T])
     requires room { length script.now ≤ length out.old }
-    requires ready { Ready m.old.slots m.old.words.words.now 0 }
-    ensures { Tells (room (length m.old.words.words.now) m.old.slots) (world_of m.old.slots m.old.words.words.now) script.now out.old out.new }
+    requires stands { Stands ready m.old.slots m.old.words.words.now }
+    ensures slots { m.new.slots ≡ m.old.slots }
+    ensures played { Played T.from_gives (length script.now) ready script.now m.old.slots m.old.words.words.now m.new.words.words.now out.old out.new }
 {
     for (i, q) in script.iter().enumerate() {
-        m.words.count = 0;
-        out[i] = call(m, q);
+        out[i] = T::from(take_turn(m, ready, q));
     }
 }
 
-// A whole script on lent words, whatever stood in them: every answer is the one given in the plain world from blank. The
-// signature was given to the project.
-pub fn play(script: &[Ask], mem: &mut [u64], slots: u16, out: &mut [Told])
+// A whole script on lent words, whatever stood in them, and of each call what is kept of it.
+pub fn play_as<T: From<Turn> + Copy>(script: &[Ask], mem: &mut [u64], slots: u16, out: &mut [T])
     requires { (length script.now ≤ length out.old) × (length mem.old < 72057594037927936) }
-    ensures { PlaySays (length mem.old) slots script.now out.old out.new }
+    ensures { PlaysAs T.from_gives (length mem.old) slots script.now out.old out.new }
 {
     let mut m = Manager {
         words: Lent {
@@ -101,8 +117,17 @@ pub fn play(script: &[Ask], mem: &mut [u64], slots: u16, out: &mut [Told])
     };
     if fits(&m.words, slots) {
         start(&mut m);
-        play_on(script, &mut m, out);
+        play_on(script, &mut m, true, out);
     } else {
-        play_without_words(script, slots, out);
+        play_on(script, &mut m, false, out);
     }
+}
+
+// A whole script on lent words: every answer is the one given in the plain world from blank. The signature was given to the
+// project.
+pub fn play(script: &[Ask], mem: &mut [u64], slots: u16, out: &mut [Told])
+    requires { (length script.now ≤ length out.old) × (length mem.old < 72057594037927936) }
+    ensures { PlaySays (length mem.old) slots script.now out.old out.new }
+{
+    play_as(script, mem, slots, out);
 }

@@ -1,8 +1,9 @@
--- The world after a script's calls, and a heap that stands for one alike to it.
-use Rattle.std.specs.Prelude.{◌≡◌, ℕ, ◌+◌, ◌<◌, ◌≤◌, Bool, true, List, [], ◌∷◌, length}
+-- A heap that stands for a world alike to the one after a script's calls.
+use Rattle.std.specs.Prelude.{◌≡◌, ℕ, ◌+◌, ◌<◌, ◌≤◌, Bool, true, List, length}
 use Rattle.mutator.specs.declared.Ask.{Ask}
-use Rattle.world.specs.World.{World, Alike, blank, weight}
-use Rattle.mutator.specs.Script.{answer}
+use Rattle.world.specs.World.{World, blank, weight}
+use Rattle.world.specs.Alike.{Alike}
+use Rattle.heap.specs.Playing.{world_after}
 use Rattle.world.specs.Room.{room}
 use Rattle.layout.specs.Cells.{base, free_of, world_of}
 use Rattle.layout.specs.Sound.{sound}
@@ -10,16 +11,6 @@ use Rattle.picture.specs.declared.playing.Unseen.{Unseen}
 use Rattle.picture.specs.declared.playing.Unseen.TheVariants.{TooFewWords, NoMemory}
 use Rattle.picture.specs.declared.spot.Spot.{Spot}
 use Rattle.picture.specs.Spots.{spots}
-
-abbrev pub world_after : ℕ → World → List Ask → World
-world_after cap w [] = w
-world_after cap w (q ∷ qs) = world_after cap (answer cap w q).after qs
-
--- a sound row, as long as another, whose world is alike to that after the calls
-pub record Plays (qs : List Ask) (slots : ℕ) (row row' : List ℕ) : Type 0 where
-  pub stays : sound slots row' ≡ true
-  pub long : length row' ≡ length row
-  pub alike : Alike (world_after (room (length row) slots) (world_of slots row) qs) (world_of slots row')
 
 -- no object is left but what is reached
 abbrev pub Swept : ℕ → List ℕ → Type 0

@@ -1,19 +1,17 @@
-// A script's calls on a manager over words of its own, and what then stands at each word.
-ghost use Rattle.std.specs.Prelude.{◌≡◌, ◌*◌, length, MatchResult};
+// A script's calls on a manager over lent words, and what then stands at each word.
+ghost use Rattle.std.specs.Prelude.{◌≡◌, ◌*◌, ◌<◌, length, MatchResult};
 ghost use Rattle.store.specs.Frame.{Frame, IsAmid, TouchesAtMost};
-ghost use Rattle.store.specs.Ready.{Ready};
-ghost use Rattle.picture.specs.Played.{Plays, Shows, Sweeps, Unshown};
+ghost use Rattle.picture.specs.Played.{Shows, Sweeps, Unshown};
 
 use crate::spot::Spot;
 use crate::survey::survey;
-use bench::Game;
 use collector::collect;
-use heap::call;
+use heap::play_on;
 use std::alloc::{AllocError, Global};
 use store::{Manager, fits, start};
 use words::Words;
 use words::lent::Lent;
-use mutator::Ask;
+use mutator::{Ask, Told};
 
 // Why there is no heap to show.
 #[derive(Clone, Copy, PartialEq, Eq, Debug)]
@@ -33,20 +31,6 @@ impl From<AllocError> for Unseen {
     }
 }
 
-// The calls, one after the other.
-fn play_on(calls: &[Ask], m: &mut Manager<Lent<'_>>)
-    requires { Ready m.old.slots m.old.words.words.now 0 }
-    ensures slots { m.new.slots ≡ m.old.slots }
-    ensures touched { m.new.words.count ≡ 0 }
-    ensures plays { Plays calls.now m.old.slots m.old.words.words.now m.new.words.words.now }
-{
-    for q in calls {
-        m.words.count = 0;
-        let _ = call(m, q);
-    }
-    m.words.count = 0;
-}
-
 // A collection, if one is wanted.
 fn sweep<W: Words>(m: &mut Manager<W>, wanted: bool)
     requires { IsAmid W.Words m.old }
@@ -59,31 +43,35 @@ fn sweep<W: Words>(m: &mut Manager<W>, wanted: bool)
     }
 }
 
-// When all calls of a game are played, and before or after a collection made then.
+// When these calls are played, and before or after a collection made then.
 #[derive(Clone, Copy)]
 pub struct Moment<'a> {
-    pub game: Game<'a>,
+    pub slots: u16,
+    pub calls: &'a [Ask],
     pub collected: bool,
 }
 
 impl Moment<'_> {
-    // What stands at each word of the heap then, behind the manager's own.
-    pub fn spots(&self, heap: Global) -> Result<Vec<Spot>, Unseen>
-        ensures { MatchResult result (λ v. Shows self.now.game.words self.now.game.slots self.now.game.calls.now self.now.collected v.items) (λ e. Unshown self.now.game.words self.now.game.slots e) }
+    // What stands at each word of lent words then, behind the manager's own.
+    pub fn spots(&self, mem: &mut [u64], heap: Global) -> Result<Vec<Spot>, Unseen>
+        requires { length mem.old < 72057594037927936 }
+        ensures { MatchResult result (λ v. Shows (length mem.old) self.now.slots self.now.calls.now self.now.collected v.items) (λ e. Unshown (length mem.old) self.now.slots e) }
     {
-        let mut words = self.game.rubbish(heap)?;
         let mut m = Manager {
             words: Lent {
-                words: words.as_mut_slice(),
+                words: mem,
                 count: 0,
             },
-            slots: self.game.slots,
+            slots: self.slots,
         };
         if !fits(&m.words, m.slots) {
             return Err(Unseen::TooFewWords);
         }
         start(&mut m);
-        play_on(self.game.calls, &mut m);
+        // The facade's loop; what is answered is not shown.
+        let mut told = vec![in heap; Told { code: 0, val: 0 }; self.calls.len()]?;
+        play_on(self.calls, &mut m, true, told.as_mut_slice());
+        m.words.count = 0;
         sweep(&mut m, self.collected);
         let spots = survey(&mut m, heap)?;
         Ok(spots)

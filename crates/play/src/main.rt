@@ -4,8 +4,9 @@
 ghost use Rattle.driver.specs.Playing.{Answered, PlaysRead};
 ghost use Rattle.driver.specs.Reading.{SaidBy};
 
-use bench::Game;
-use driver::{Fault, Script, exit_code, open_input, open_output, print_answers, read_script};
+use driver::{
+    Fault, Script, exit_code, lent_words, open_input, open_output, print_answers, read_script,
+};
 use std::alloc::{AllocError, Global};
 use std::io::{BufRead, Write};
 use std::process::ExitCode;
@@ -14,12 +15,16 @@ use mutator::Told;
 fn answer(heap: Global, script: &Script) -> Result<Vec<Told>, AllocError>
     ensures { Answered script.now result }
 {
-    let game = Game {
-        words: script.size.words,
-        slots: script.size.slots,
-        calls: script.calls.as_slice(),
-    };
-    game.answers(heap)
+    let calls = script.calls.as_slice();
+    let mut words = lent_words(heap, script.size.words)?;
+    let mut told = vec![in heap; Told { code: 0, val: 0 }; calls.len()]?;
+    heap::play(
+        calls,
+        words.as_mut_slice(),
+        script.size.slots,
+        told.as_mut_slice(),
+    );
+    Ok(told)
 }
 
 // The script that an input holds, from its bytes to those of the answers: what its lines say is played, and printed is what the

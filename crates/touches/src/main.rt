@@ -1,12 +1,12 @@
 // Plays a script on the memory manager and prints how many words each call touches; with --summary also what each kind of call touches.
 #![tactic(auto)]
 
-use bench::{Game, Kind, Tally};
+use bench::{CallKind, Game, Tally};
 use driver::{Fault, Script, exit_code, open_input, open_output, read_script};
 use std::io::{BufWriter, Stdout, Write};
 use std::process::ExitCode;
 use std::{env, fmt, io};
-use mutator::Ask;
+use mutator::{Ask, CALLS};
 
 #[derive(Drop)]
 enum Failure {
@@ -73,7 +73,7 @@ fn print_tally<K: fmt::Display>(
 
 // A line for each kind of call that occurred, and one for all; touches has a number for each call.
 fn print_summary(out: &mut BufWriter<Stdout>, calls: &[Ask], touches: &[u64]) -> io::Result<()> {
-    for kind in Kind::ALL {
+    for kind in (0..CALLS).filter_map(CallKind::at) {
         let tally = Tally::of_kind(kind, calls, touches);
         if tally.calls > 0 {
             print_tally(out, &kind, tally)?;

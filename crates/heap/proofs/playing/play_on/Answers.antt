@@ -1,21 +1,21 @@
--- Each turn answers one call more, in a world alike to the one that was to come.
-use Rattle.std.proofs.Common.{ℕ, ◌<◌, length, refl, ap, ◌∙◌, arith}
-use Rattle.layout.specs.Sound.{sound}
-use Rattle.heap.proofs.Scripts.{telling_more, telling_last, does_at}
+-- One call more is played.
+use Rattle.std.proofs.Common.{length, take, sym, refl, ◌∙◌, arith}
+use Rattle.std.proofs.lemmas.List.{length-take-le, take_more}
+use Rattle.mutator.specs.declared.Ask.TheVariants.{New}
+use Rattle.heap.proofs.Scripts.{played_none, played_more}
 use Rattle.heap.proofs.playing.play_on.Goals as goal
 
-pub loop-i-preserved : goal.loop-i-preserved
-loop-i-preserved c =
-    let k = c.call.ensures.calls in
-    let inv = c.loop-i.invariant in
-    let short : c.loop-i.i < length c.loop-i.out = omega (arith, c.requires.room, c.loop-i-test.true, c.loop-i.auto.out) in
-    let slots = c.call.ensures.frame.slots in (
-      slots ∙ inv.0,
-      k.long ∙ inv.1,
-      ap (λ (n : ℕ). sound n c.call.new.m.words.words.now) slots ∙ k.stays,
-      telling_more _ _ _ _ c.args.script.now c.loop-i.i c.args.out.now c.loop-i.out c.call.result _ c.loop-i-test.true short refl
-          (does_at _ _ _ _ _ _ _ _ inv.0 inv.1 k.does) inv.3,
-    )
+pub loop-i-init : goal.loop-i-init
+loop-i-init g c = (refl, played_none _ _ _ _ _ _ c.requires.stands)
 
-pub returns : goal.returns
-returns c = telling_last _ _ _ c.args.script.now c.loop-i.i c.args.out.now c.loop-i.out c.loop-i.auto.i-end c.loop-i-test.false c.loop-i.invariant.3
+pub loop-i-preserved : goal.loop-i-preserved
+loop-i-preserved g c =
+    let inv = c.loop-i.invariant in
+    let script = c.args.script.now in
+    let i = c.loop-i.i in
+    let k = rw inv.0 at c.take_turn.ensures.turns in
+    (
+      c.take_turn.ensures.slots ∙ inv.0,
+      rw (take_more script i (New 0 0 0) c.loop-i-test.true)
+          (played_more _ _ _ _ _ _ _ _ _ _ _ _ _ i (sym (length-take-le i script (omega arith))) c.loop-i-test.true (omega (arith, c.requires.room, c.loop-i.auto.out, c.loop-i-test.true)) inv.1 k c.from.ensures),
+    )
