@@ -7,7 +7,7 @@ mod random;
 mod tally;
 mod touching;
 
-pub use kind::Kind;
+pub use kind::CallKind;
 pub use playing::Game;
 pub use random::Random;
 pub use tally::Tally;

@@ -2,7 +2,7 @@
 ghost use Rattle.std.specs.Prelude.{◌≡◌, ◌+◌, ◌-◌, ◌*◌, ◌/◌, ◌^◌, min, max, fold};
 ghost use Rattle.bench.specs.Tallies.{none, and_one, of_kind};
 
-use crate::kind::Kind;
+use crate::kind::CallKind;
 use mutator::Ask;
 
 #[derive(Clone, Copy, Default)]
@@ -34,13 +34,13 @@ impl Tally {
     }
 
     // Of the calls of one kind, where touches has a number for each call, as the manager is handed calls and a row for answers.
-    pub fn of_kind(kind: Kind, calls: &[Ask], touches: &[u64]) -> Tally
-        ensures { result ≡ of_kind kind none calls.now touches.now }
+    pub fn of_kind(kind: CallKind, calls: &[Ask], touches: &[u64]) -> Tally
+        ensures { result ≡ of_kind kind.name.now none calls.now touches.now }
     {
         calls
             .iter()
             .zip(touches)
-            .filter(|(ask, _)| Kind::from(*ask) == kind)
+            .filter(|(ask, _)| ask.entry().name == kind.name)
             .fold(Tally::default(), |tally, (_, touched)| tally.add(*touched))
     }
 

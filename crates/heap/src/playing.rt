@@ -1,8 +1,7 @@
 // A whole script on lent words, from the beginning.
-ghost use Rattle.std.specs.Prelude.{◌≡◌, ◌<◌, ◌≤◌, length, MatchResult};
-ghost use Rattle.std.proofs.Math.Option.{some, none};
-ghost use Rattle.mutator.specs.declared.refusal.Refusal.TheVariants.{NoSlot};
-ghost use Rattle.world.specs.Base.{nth};
+ghost use Rattle.std.specs.Prelude.{◌≡◌, ◌<◌, ◌≤◌, length};
+ghost use Rattle.mutator.specs.Numbers.{listed};
+ghost use Rattle.mutator.specs.TableLaws.{there as there_in, all_there as all_there_in};
 ghost use Rattle.world.specs.World.{blank};
 ghost use Rattle.mutator.specs.Script.{answer};
 ghost use Rattle.mutator.specs.Refusals.{said};
@@ -14,52 +13,38 @@ ghost use Rattle.heap.specs.Says.{PlaySays, Tells};
 use crate::calling::call;
 use store::{Manager, fits, start};
 use words::lent::Lent;
-use mutator::{Ask, Refusal, Told};
+use mutator::{Ask, Entry, Number, Numbers, Refusal, Told};
 
-// Is there such a slot? It is empty then.
-fn empty(slots: u16, s: u16) -> Result<(), Refusal>
-    ensures { MatchResult result (λ _. nth (blank slots).slots s ≡ some 0) (λ e. (e ≡ NoSlot) × (nth (blank slots).slots s ≡ none)) }
+// Is it no slot, or one that is there?
+fn there(slots: u16, number: Number) -> bool
+    ensures { result ≡ there_in slots number }
 {
-    if s < slots {
-        Ok(())
-    } else {
-        Err(Refusal::NoSlot)
+    match number {
+        Number::Slot(s) => s < slots,
+        _ => true,
     }
 }
 
-// One call where there are not words enough to start: all slots are empty, and stay so. A match, as each call has other slots.
+fn all_there(slots: u16, numbers: Numbers) -> bool
+    ensures { result ≡ all_there_in slots (listed numbers) }
+{
+    match numbers {
+        Numbers::Zero => true,
+        Numbers::One(a) => there(slots, a),
+        Numbers::Two(a, b) => there(slots, a) && there(slots, b),
+        Numbers::Three(a, b, c) => there(slots, a) && there(slots, b) && there(slots, c),
+    }
+}
+
+// One call where there are not words enough to start: all slots are empty, and stay so. What comes of it is in the table.
 fn without_words(slots: u16, q: &Ask) -> Result<u64, Refusal>
     ensures { said result ≡ (answer 0 (blank slots) q.now).told }
 {
-    match *q {
-        Ask::New(s, _, _) => {
-            empty(slots, s)?;
-            Err(Refusal::Full)
-        }
-        Ask::Read(s, _) | Ask::Write(s, _, _) | Ask::Sizes(s) => {
-            empty(slots, s)?;
-            Err(Refusal::Nothing)
-        }
-        Ask::Get(s, t, _) | Ask::Set(s, _, t) => {
-            empty(slots, s)?;
-            empty(slots, t)?;
-            Err(Refusal::Nothing)
-        }
-        Ask::Copy(s, t) => {
-            empty(slots, s)?;
-            empty(slots, t)?;
-            Ok(0)
-        }
-        Ask::Same(s, t) => {
-            empty(slots, s)?;
-            empty(slots, t)?;
-            Ok(1)
-        }
-        Ask::Clear(s) => {
-            empty(slots, s)?;
-            Ok(0)
-        }
-        Ask::Collect => Ok(0),
+    let Entry { numbers, empty, .. } = q.entry();
+    if all_there(slots, numbers) {
+        empty
+    } else {
+        Err(Refusal::NoSlot)
     }
 }
 

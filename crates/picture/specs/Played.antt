@@ -1,7 +1,8 @@
 -- The world after a script's calls, and a heap that stands for one alike to it.
 use Rattle.std.specs.Prelude.{◌≡◌, ℕ, ◌+◌, ◌<◌, ◌≤◌, Bool, true, List, [], ◌∷◌, length}
 use Rattle.mutator.specs.declared.Ask.{Ask}
-use Rattle.world.specs.World.{World, Alike, blank, weight}
+use Rattle.world.specs.World.{World, blank, weight}
+use Rattle.world.specs.Alike.{Alike}
 use Rattle.mutator.specs.Script.{answer}
 use Rattle.world.specs.Room.{room}
 use Rattle.layout.specs.Cells.{base, free_of, world_of}
