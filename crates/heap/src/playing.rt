@@ -11,9 +11,9 @@ ghost use Rattle.store.specs.Ready.{Ready};
 ghost use Rattle.heap.specs.Says.{PlaySays, Tells};
 
 use crate::calling::call;
+use mutator::{Ask, Entry, Number, Numbers, Refusal, Told};
 use store::{Manager, fits, start};
 use words::lent::Lent;
-use mutator::{Ask, Entry, Number, Numbers, Refusal, Told};
 
 // Is it no slot, or one that is there?
 fn there(slots: u16, number: Number) -> bool

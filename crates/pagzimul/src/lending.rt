@@ -80,7 +80,9 @@ pub extern "C" fn pagzimul_start(words: &mut [u64], slots: u64) -> bool
     if !pagzimul_fits(words, slots) {
         return false;
     }
-    with_manager(words, slots, |m| start(m)).0.within(67 + slots);
+    with_manager(words, slots, |m| start(m))
+        .0
+        .within(67 + slots);
     true
 }
 
@@ -96,5 +98,7 @@ pub extern "C" fn pagzimul_is_sound(words: &mut [u64], slots: u64) -> bool
         return false;
     }
     let count = words.len() as u64;
-    with_manager(words, slots, |m| is_sound(m)).0.within(count * (1 + count))
+    with_manager(words, slots, |m| is_sound(m))
+        .0
+        .within(count * (1 + count))
 }
