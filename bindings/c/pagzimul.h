@@ -65,37 +65,38 @@ bool pagzimul_start(uint64_t *words, size_t count, uint64_t slots);
  * true. It needs no memory of its own, so it takes time quadratic in the words in use. */
 bool pagzimul_is_sound(uint64_t *words, size_t count, uint64_t slots);
 
-/* A new object with so many places and words, in slot s. FULL exactly if what is reached, and what it weighs, do not
- * fit; then nothing has changed that a mutator can tell. What stood in slot s counts as reached, too. NO_SLOT; NO_PLACE
- * if places or nwords is 65,536 or more. May collect. */
-pagzimul_told pagzimul_new(uint64_t *words, size_t count, uint64_t slots, uint64_t s, uint64_t places, uint64_t nwords);
+/* The calls. calls: begin (scripts/print-calls) */
+/* New: an object with r places and n words, in slot s. Full exactly if the world's weight and 2 + r + n are more than
+ * the room; what stood in s counts, too. FULL, DONE, NO_SLOT, NO_PLACE if r or n is 65,536 or more. */
+pagzimul_told pagzimul_new(uint64_t *words, size_t count, uint64_t slots, uint64_t s, uint64_t r, uint64_t n);
 
-/* Slot t becomes place i of the object in slot s. NO_SLOT, NOTHING in s, NO_PLACE. */
+/* Get: slot t becomes place i of the object in s. DONE, NO_SLOT, NOTHING, NO_PLACE. */
 pagzimul_told pagzimul_get(uint64_t *words, size_t count, uint64_t slots, uint64_t t, uint64_t s, uint64_t i);
 
-/* Place i of the object in slot s becomes what is in slot t, which may be empty. NO_SLOT, NOTHING in s, NO_PLACE. */
+/* Set: place i of the object in s becomes what is in t, which may be empty. DONE, NO_SLOT, NOTHING, NO_PLACE. */
 pagzimul_told pagzimul_set(uint64_t *words, size_t count, uint64_t slots, uint64_t s, uint64_t i, uint64_t t);
 
-/* The number is word i of the object in slot s. NO_SLOT, NOTHING, NO_PLACE. */
+/* Read: the number is word i of the object in s. DONE, NO_SLOT, NOTHING, NO_PLACE. */
 pagzimul_told pagzimul_read(uint64_t *words, size_t count, uint64_t slots, uint64_t s, uint64_t i);
 
-/* Word i of the object in slot s becomes x. NO_SLOT, NOTHING, NO_PLACE. */
+/* Write: word i of the object in s becomes x. DONE, NO_SLOT, NOTHING, NO_PLACE. */
 pagzimul_told pagzimul_write(uint64_t *words, size_t count, uint64_t slots, uint64_t s, uint64_t i, uint64_t x);
 
-/* Slot t becomes what is in slot s. NO_SLOT. */
+/* Copy: slot t becomes what is in s. DONE, NO_SLOT. */
 pagzimul_told pagzimul_copy(uint64_t *words, size_t count, uint64_t slots, uint64_t t, uint64_t s);
 
-/* Slot t becomes empty. NO_SLOT. */
+/* Clear: slot t becomes empty. DONE, NO_SLOT. */
 pagzimul_told pagzimul_clear(uint64_t *words, size_t count, uint64_t slots, uint64_t t);
 
-/* The number is 1 if both slots hold the same object, or both none, else 0. NO_SLOT. */
+/* Same: the number is 1 if both hold the same object or both none, else 0. DONE, NO_SLOT. */
 pagzimul_told pagzimul_same(uint64_t *words, size_t count, uint64_t slots, uint64_t s, uint64_t t);
 
-/* The number is 65,536 times the places, and the words, of the object in slot s. NO_SLOT, NOTHING. */
+/* Sizes: the number is 65,536 times the places, and the words, of the object in s. DONE, NO_SLOT, NOTHING. */
 pagzimul_told pagzimul_sizes(uint64_t *words, size_t count, uint64_t slots, uint64_t s);
 
-/* Takes back what is not reached. Nothing that a mutator can tell: always DONE. */
+/* Collect: what is not reached is taken back; nothing that the mutator can tell. DONE. */
 pagzimul_told pagzimul_collect(uint64_t *words, size_t count, uint64_t slots);
+/* calls: end */
 
 #ifdef __cplusplus
 }

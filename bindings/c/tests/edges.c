@@ -1,6 +1,9 @@
-/* What lies at the edges: NULL, fewest and most words, no slots, most slots, slots out of range, the largest object. */
+/* What lies at the edges: NULL, fewest and most words, slots out of range. */
 #define _DEFAULT_SOURCE
-#include "game.h"
+#include "lent.h"
+#include "row.h"
+#include "tests.h"
+#include <stdio.h>
 #include <sys/mman.h>
 
 enum { MOST_SIZE = 65535, SOME_ROOM = 50 };
@@ -73,56 +76,6 @@ static void test_fits(void) {
     }
 }
 
-/* Plays a script that is written down, on every placing. */
-static void play(const char *name, size_t room, uint64_t slots, const call *calls, size_t many) {
-    tally counts = {{0}};
-    for (size_t how = 0; how < PLACINGS; how++) {
-        game g;
-        game_open(&g, name, (placing)how, OWN_WORDS + (size_t)slots + room, slots);
-        fill_with_ones(&g.lent);
-        game_start(&g);
-        for (size_t i = 0; i < many; i++) game_play_one(&g, &calls[i], &counts);
-        if (!pagzimul_is_sound(g.lent.words, g.lent.count, slots)) game_fail(&g, "what calls made is not sound");
-        game_end(&g);
-    }
-}
-
-static void test_slots(void) {
-    enum { LAST = MOST_SIZE - 1 };
-    static const call without[] = {{COLLECT, {0}},  {NEW, {0, 0, 0}}, {NEW, {UINT64_MAX, SIZE_LIMIT, 0}},
-                                   {COPY, {0, 0}},  {SAME, {0, 0}},   {GET, {0, 0, 0}},
-                                   {READ, {0, 0}},  {CLEAR, {0}}};
-    static const call most[] = {{NEW, {LAST, 1, 1}},      {WRITE, {LAST, 0, UINT64_MAX}}, {SET, {LAST, 0, LAST}},
-                                {GET, {0, LAST, 0}},      {SAME, {0, LAST}},              {NEW, {MOST_SIZE, 0, 0}},
-                                {NEW, {SIZE_LIMIT, 0, 0}}, {CLEAR, {LAST}},                {COLLECT, {0}},
-                                {READ, {0, 0}},           {COPY, {MOST_SIZE, 0}}};
-    play("no slots", 0, 0, without, LENGTH(without));
-    play("no slots", 1, 0, without, LENGTH(without));
-    play("most slots", SOME_ROOM, MOST_SIZE, most, LENGTH(most));
-}
-
-static void test_largest_object(void) {
-    enum { WEIGHT = OBJECT_WORDS + 2 * MOST_SIZE, LAST = MOST_SIZE - 1 };
-    static const call calls[] = {{NEW, {1, 0, 3}},
-                                 {CLEAR, {1}},
-                                 {NEW, {0, MOST_SIZE, MOST_SIZE}},
-                                 {NEW, {1, SIZE_LIMIT, 0}},
-                                 {NEW, {1, 0, UINT64_MAX}},
-                                 {SIZES, {0}},
-                                 {SET, {0, LAST, 0}},
-                                 {SET, {0, MOST_SIZE, 0}},
-                                 {WRITE, {0, LAST, UINT64_MAX}},
-                                 {WRITE, {0, SIZE_LIMIT, 1}},
-                                 {COLLECT, {0}},
-                                 {GET, {1, 0, LAST}},
-                                 {SAME, {0, 1}},
-                                 {READ, {1, LAST}},
-                                 {NEW, {1, 0, 0}}};
-    play("largest object", WEIGHT - 1, 2, calls, LENGTH(calls));
-    play("largest object", WEIGHT, 2, calls, LENGTH(calls));
-    play("largest object", WEIGHT + OBJECT_WORDS, 2, calls, LENGTH(calls));
-}
-
 /* The most words that is_sound looks at. They are only said to be there: no more than a few pages are touched. */
 static void test_most_words(void) {
     enum { SLOTS = 3 };
@@ -145,7 +98,5 @@ static void test_most_words(void) {
 void test_edges(void) {
     test_null();
     test_fits();
-    test_slots();
-    test_largest_object();
     test_most_words();
 }

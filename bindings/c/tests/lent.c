@@ -9,6 +9,7 @@
 enum { GUARDS = 64, EXIT_NO_MEMORY = 3 };
 
 #define GUARD UINT64_C(0xA5C3A5C3A5C3A5C3)
+#define FILL_STEP UINT64_C(0x9E3779B97F4A7C15)
 
 static const char *const names[PLACINGS] = {"exact block", "guard words", "fence behind", "fence before"};
 
@@ -29,6 +30,10 @@ static uint64_t guard_of(size_t i) {
 static void put_guards(lent *l) {
     for (size_t i = 0; i < l->before; i++) *(l->words - 1 - i) = guard_of(i);
     for (size_t i = 0; i < l->after; i++) l->words[l->count + i] = guard_of(i);
+}
+
+void lent_fill(lent *l) {
+    for (size_t i = 0; i < l->count; i++) l->words[i] = (i + 1) * FILL_STEP;
 }
 
 bool lent_is_guarded(const lent *l) {

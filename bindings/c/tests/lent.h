@@ -29,6 +29,9 @@ const char *placing_name(placing how);
 /* So many words, with anything in them. */
 lent lent_take(placing how, size_t count);
 
+/* Fills the words with what a heap must not rely on, the same for each placing. */
+void lent_fill(lent *l);
+
 /* Are the guard words as they were? */
 bool lent_is_guarded(const lent *l);
 

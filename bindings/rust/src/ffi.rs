@@ -20,14 +20,8 @@ unsafe extern "C" {
     pub fn pagzimul_fits(words: *const u64, count: usize, slots: u64) -> bool;
     pub fn pagzimul_start(words: *mut u64, count: usize, slots: u64) -> bool;
     pub fn pagzimul_is_sound(words: *mut u64, count: usize, slots: u64) -> bool;
-    pub fn pagzimul_new(
-        words: *mut u64,
-        count: usize,
-        slots: u64,
-        s: u64,
-        places: u64,
-        nwords: u64,
-    ) -> Told;
+    // The calls. calls: begin (scripts/print-calls)
+    pub fn pagzimul_new(words: *mut u64, count: usize, slots: u64, s: u64, r: u64, n: u64) -> Told;
     pub fn pagzimul_get(words: *mut u64, count: usize, slots: u64, t: u64, s: u64, i: u64) -> Told;
     pub fn pagzimul_set(words: *mut u64, count: usize, slots: u64, s: u64, i: u64, t: u64) -> Told;
     pub fn pagzimul_read(words: *mut u64, count: usize, slots: u64, s: u64, i: u64) -> Told;
@@ -44,4 +38,5 @@ unsafe extern "C" {
     pub fn pagzimul_same(words: *mut u64, count: usize, slots: u64, s: u64, t: u64) -> Told;
     pub fn pagzimul_sizes(words: *mut u64, count: usize, slots: u64, s: u64) -> Told;
     pub fn pagzimul_collect(words: *mut u64, count: usize, slots: u64) -> Told;
+    // calls: end
 }

@@ -1,3 +1,3 @@
 -- Lemmas on the calls.
 pub mod Steps
-pub mod Answering
+pub mod CoreCalls

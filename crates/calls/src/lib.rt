@@ -1,6 +1,6 @@
 // The calls that a mutator makes of the manager.
 #![tactic(auto)]
 
-mod arms;
+mod core_calls;
 
-pub use arms::{clear, copy, get, read, same, set, sizes, write};
+pub use core_calls::{clear, copy, get, read, same, set, sizes, write};

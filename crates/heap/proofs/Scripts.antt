@@ -3,7 +3,8 @@ use Rattle.std.proofs.Common.{◌≡◌, ℕ, ◌+◌, ◌*◌, ◌<◌, ◌≤�
 use Rattle.std.proofs.lemmas.List.{length-append, take_more_set}
 use Rattle.mutator.specs.declared.Ask.{Ask}
 use Rattle.mutator.specs.declared.Told.{Told}
-use Rattle.world.specs.World.{World, Alike, blank}
+use Rattle.world.specs.World.{World, blank}
+use Rattle.world.specs.Alike.{Alike}
 use Rattle.world.specs.Laws.{Valid}
 use Rattle.world.specs.Room.{room}
 use Rattle.mutator.specs.Table.{entry, numbers}

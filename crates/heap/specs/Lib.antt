@@ -1,3 +1,4 @@
 -- What the manager promises: one call, and a whole script.
 pub mod Says
+pub mod Touches
 pub mod Playing

@@ -1,7 +1,8 @@
 -- What is left of a script that is played: its answers, its touches, and a world alike to the one after it.
 use Rattle.std.specs.Prelude.{◌≡◌, ℕ, ◌+◌, ◌*◌, ◌<◌, ◌≤◌, Bool, true, false, List, [], ◌∷◌, map, length, take, drop}
 use Rattle.mutator.specs.declared.Ask.{Ask}
-use Rattle.world.specs.World.{World, Alike, blank}
+use Rattle.world.specs.World.{World, blank}
+use Rattle.world.specs.Alike.{Alike}
 use Rattle.mutator.specs.Script.{Answer, answer, answers}
 use Rattle.mutator.specs.Refusals.{answer_of}
 use Rattle.world.specs.Room.{room}

@@ -2,7 +2,8 @@
 #![tactic(auto)]
 
 mod calling;
+mod core_calls;
 mod playing;
 
-pub use calling::call;
+pub use calling::{call, call_with};
 pub use playing::{Turn, play, play_as, play_on};

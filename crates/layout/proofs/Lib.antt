@@ -1,4 +1,5 @@
 -- Lemmas on rows of words.
+pub mod Facts
 pub mod Lists
 pub mod Segs
 pub mod Tiles

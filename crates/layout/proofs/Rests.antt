@@ -1,8 +1,9 @@
 -- The cells from an address on, for loops that go from header to header: one step, the end, and what is asked of all cells.
 use Rattle.std.proofs.Common.{◌≡◌, ℕ, zero, suc, ◌+◌, ◌-◌, ◌<◌, ◌≤◌, Bool, true, false, ◌&&◌, eqb, ltb, List, [], ◌∷◌, length, get_or, sym, refl, ap, ◌∙◌, inl, inr, arith}
-use Rattle.std.proofs.lemmas.Bool.{lt-ltb, le-ltb, eq-eqb, ne_eqb, cases_lt, cases_eq}
+use Rattle.std.proofs.lemmas.Bool.{lt-ltb, le-ltb, eq-eqb, ne_eqb, cases_lt}
 use Rattle.layout.specs.Cells.{Cell, cell, span, cells, base, free_of, layout, seg, number, next}
-use Rattle.layout.specs.Sound.{all_of, ends, Tiled}
+use Rattle.layout.specs.Sound.{all_of, ends}
+use Rattle.layout.proofs.Facts.{Tiled}
 use Rattle.layout.proofs.Tiles.{tiled_le, cells_tiled}
 
 unfoldable pub rest : List ℕ → ℕ → ℕ → List Cell

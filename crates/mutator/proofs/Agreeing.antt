@@ -1,8 +1,9 @@
 -- Of alike worlds the parts of a call say the same and leave alike worlds.
-use Rattle.std.proofs.Common.{◌≡◌, ℕ, zero, suc, ◌+◌, Bool, true, false, leb, List, refl, subst}
+use Rattle.std.proofs.Common.{ℕ, zero, suc, ◌+◌, Bool, true, false, leb, List, refl, subst}
 use mathlib.Core.Option.{Option, some, none}
 use Rattle.world.specs.Base.{pick, opt, nth}
-use Rattle.world.specs.World.{Obj, World, with_slot, with_obj, made, size, weight, Pair, In, Meet, both_none, both, Meets, none_left, and_these, Match, AlikeBy}
+use Rattle.world.specs.World.{Obj, World, with_slot, with_obj, made, size, weight}
+use Rattle.world.specs.Alike.{Pair, In, Meet, both_none, both, Meets, none_left, and_these, Match, AlikeBy}
 use Rattle.mutator.specs.Outcomes.{Outcome, outcome, slot, holds, granted, allocated}
 use Rattle.mutator.specs.Laws.{Agree}
 use Rattle.world.proofs.Weighs.{weighs_by, size_match}

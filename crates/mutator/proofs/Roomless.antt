@@ -1,11 +1,11 @@
 -- Where there is no room and all slots are empty, calls are answered as the table says, and nothing changes.
-use Rattle.std.proofs.Common.{◌≡◌, ℕ, zero, suc, ◌+◌, ◌<◌, ◌≤◌, Bool, true, false, ◌&&◌, cond, ltb, List, [], ◌∷◌, replicate, refl, ap, ◌∙◌, arith}
+use Rattle.std.proofs.Common.{◌≡◌, ℕ, zero, suc, ◌+◌, ◌<◌, ◌≤◌, Bool, true, false, ◌&&◌, cond, ltb, List, ◌∷◌, replicate, refl, ap, ◌∙◌, arith}
 use mathlib.Core.Option.{Option, some, none}
 use Rattle.std.proofs.lemmas.Bool.{lt-leb, ltb-true, ltb-false}
 use Rattle.mutator.specs.declared.Ask.{Ask}
 use Rattle.mutator.specs.declared.Ask.TheVariants.{New, Get, Set, Read, Write, Copy, Clear, Same, Sizes, Collect}
 use Rattle.world.specs.Base.{pick, opt, nth, put}
-use Rattle.world.specs.World.{Obj, World, blank, with_slot, made, weight, size, fresh}
+use Rattle.world.specs.World.{Obj, blank, with_slot, made, weight, size, fresh}
 use Rattle.mutator.specs.Script.{Answer, Outcome, told, outcome, slot, allocated, answer}
 use Rattle.mutator.specs.TableLaws.{roomless}
 

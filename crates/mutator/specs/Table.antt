@@ -39,7 +39,7 @@ entry (Clear t) = call (codes "Clear") (Slot t ∷ []) 0 (Ok 0)
 entry (Same s t) = call (codes "Same") (Slot s ∷ Slot t ∷ []) 0 (Ok 1)
 -- 1 2 3: the number is 65,536 times the places, and the words, of the object in s
 entry (Sizes s) = call (codes "Sizes") (Slot s ∷ []) 0 (Err Nothing)
--- 1: nothing that the mutator can tell
+-- 1: what is not reached is taken back; nothing that the mutator can tell
 entry Collect = call (codes "Collect") [] 0 (Ok 0)
 
 -- the calls in order, each made of its numbers

@@ -5,7 +5,7 @@ use Rattle.mutator.specs.declared.number.Number.{Number}
 use Rattle.mutator.specs.declared.number.Number.TheVariants.{Slot, Place, WordIndex, Size, Value}
 use Rattle.mutator.specs.Numbers.{value, like}
 use Rattle.mutator.specs.Table.{entry, name, numbers, calls, named}
-use Rattle.mutator.specs.Script.{Answer, Outcome, told, answer}
+use Rattle.mutator.specs.Script.{Answer, told, answer}
 use Rattle.mutator.specs.Refusals.{said}
 use Rattle.world.specs.World.{blank}
 

@@ -21,17 +21,35 @@ pub extern "C" fn pagzimul_fits(words: &[u64], slots: u64) -> bool
     slots < 65536 && words.len() < ADDRESSES && OWN + slots as usize <= words.len()
 }
 
-// Does a piece of work on a manager over lent words, and hands back the words with what it gave: by value, since the prover
-// does not follow a `&mut` that is lent to a struct within a struct.
+// What a piece of work gave, and how many words it touched.
+#[derive(Clone, Copy)]
+pub struct Counted<T> {
+    pub given: T,
+    pub touched: u64,
+}
+
+impl<T: Copy> Counted<T> {
+    // What was given, by work that touched no more words than so many: whoever has work done says so here.
+    pub fn within(self, most: u64) -> T
+        requires { self.touched ≤ most }
+        ensures { result ≡ self.given }
+    {
+        prove!(self.touched <= most);
+        self.given
+    }
+}
+
+// Does a piece of work on a manager over lent words that has touched none of them, and hands back the words with what it gave
+// and how many it touched: by value, since the prover does not follow a `&mut` that is lent to a struct within a struct.
 pub fn with_manager<'a, R, F: FnOnce(&mut Manager<Lent<'a>>) -> R>(
     words: &'a mut [u64],
     slots: u64,
     work: F,
-) -> (R, &'a mut [u64])
+) -> (Counted<R>, &'a mut [u64])
     requires few { slots < 65536 }
     requires takes { FnOnceTakesAtMut F.FnOnce work (managed words slots) }
     requires keeps { (r : _) (m : _) → FnOnceReturnsAtMut F.FnOnce work (managed words slots) r m → m.words.words.ghost_name ≡ words.ghost_name }
-    ensures does { (m : _) × FnOnceReturnsAtMut F.FnOnce work (managed words.entry slots) result.0 m × (m.words.words.now ≡ result.1.now) }
+    ensures does { (m : _) × FnOnceReturnsAtMut F.FnOnce work (managed words.entry slots) result.0.given m × (m.words.words.now ≡ result.1.now) × (m.words.count ≡ result.0.touched) }
     ensures lender { result.1.ghost_name ≡ words.entry.ghost_name }
 {
     let mut m = Manager {
@@ -39,9 +57,12 @@ pub fn with_manager<'a, R, F: FnOnce(&mut Manager<Lent<'a>>) -> R>(
         // `few` keeps it below 65,536
         slots: slots as u16,
     };
-    let done = work(&mut m);
-    let Lent { words: back, .. } = m.words;
-    (done, back)
+    let given = work(&mut m);
+    let Lent {
+        words: back,
+        count: touched,
+    } = m.words;
+    (Counted { given, touched }, back)
 }
 
 // Makes an empty heap of words, whatever stands in them; where they do not fit, it writes nothing and says so.
@@ -56,7 +77,7 @@ pub extern "C" fn pagzimul_start(words: &mut [u64], slots: u64) -> bool
     if !pagzimul_fits(words, slots) {
         return false;
     }
-    with_manager(words, slots, |m| start(m));
+    with_manager(words, slots, |m| start(m)).0.within(67 + slots);
     true
 }
 
@@ -70,5 +91,6 @@ pub extern "C" fn pagzimul_is_sound(words: &mut [u64], slots: u64) -> bool
     if words.len() > CHECKED || !pagzimul_fits(words, slots) {
         return false;
     }
-    with_manager(words, slots, |m| is_sound(m)).0
+    let count = words.len() as u64;
+    with_manager(words, slots, |m| is_sound(m)).0.within(count * (1 + count))
 }

@@ -1,7 +1,8 @@
 -- Calls that are played one after the other, and a sweep behind them.
 use Rattle.std.proofs.Common.{◌≡◌, ℕ, ◌+◌, ◌≤◌, Bool, true, false, List, [], ◌∷◌, ◌++◌, length, refl, ap, ◌∙◌, subst}
 use Rattle.mutator.specs.declared.Ask.{Ask}
-use Rattle.world.specs.World.{World, Alike, blank}
+use Rattle.world.specs.World.{World, blank}
+use Rattle.world.specs.Alike.{Alike}
 use Rattle.world.specs.Room.{room}
 use Rattle.world.proofs.Equivalence.{alike_self, alike_through}
 use Rattle.world.proofs.Weighs.{weighs}

@@ -4,7 +4,8 @@ use mathlib.Core.Option.{some}
 use Rattle.world.specs.Base.{nth, has}
 use Rattle.world.specs.World.{reached}
 use Rattle.layout.specs.Cells.{Cell, cells, base, free_of, layout, world_of}
-use Rattle.layout.specs.Sound.{sound, Heap}
+use Rattle.layout.specs.Sound.{sound}
+use Rattle.layout.proofs.Facts.{Heap}
 use Rattle.layout.specs.Marks.{marked_at, marked_from, Remarked, MarksReached}
 use Rattle.layout.proofs.Lists.{some_some}
 use Rattle.layout.proofs.Segs.{seg_same}

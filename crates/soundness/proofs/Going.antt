@@ -1,5 +1,5 @@
 -- A loop from object to object: what it has touched, and what it still has to find out.
-use Rattle.std.proofs.Common.{◌≡◌, ℕ, ◌+◌, List, get_or, refl, ap, ◌∙◌, arith}
+use Rattle.std.proofs.Common.{◌≡◌, ℕ, List, get_or, refl, ap, ◌∙◌, arith}
 use Rattle.words.specs.declared.Words.{Ghosts}
 use Rattle.words.specs.declared.header.Header.{Header}
 use Rattle.words.specs.Header.{unpacked}

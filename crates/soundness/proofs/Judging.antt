@@ -1,9 +1,8 @@
 -- One word or one object more is judged, and what is then left to judge.
-use Rattle.std.proofs.Common.{◌≡◌, ℕ, ◌+◌, ◌-◌, ◌<◌, ◌≤◌, Bool, true, false, ◌&&◌, eqb, ltb, ◌⊎◌, List, get_or, sym, refl, ap, ◌∙◌, inl, inr, arith}
-use Rattle.std.proofs.lemmas.Bool.{eq-eqb, ne_eqb}
+use Rattle.std.proofs.Common.{◌≡◌, ℕ, ◌+◌, ◌-◌, ◌<◌, ◌≤◌, Bool, true, false, ◌&&◌, List, get_or, sym, refl, ap, ◌∙◌, arith}
 use Rattle.words.specs.declared.header.Header.{Header}
 use Rattle.words.specs.Header.{unpacked}
-use Rattle.words.specs.Kinds.{weight, references, place_count, word_count, well_formed, references_of, place_count_of, word_count_of, is_well_formed}
+use Rattle.words.specs.Kinds.{weight, references, place_count, word_count, well_formed, place_count_of, word_count_of, is_well_formed}
 use Rattle.layout.specs.Cells.{cell, layout, seg}
 use Rattle.layout.specs.Sound.{all_of, reference_ok, cell_ok, ends}
 use Rattle.layout.proofs.Rests.{rest, rest_within, ends_step, part_step, all_step}
@@ -43,7 +42,7 @@ module _ (slots slots1 : ℕ) (row row1 : List ℕ) (at free w : ℕ) (h : Heade
       let p = ap weight head in
       all_step (cell_ok (layout slots row) row) row at free w l (omega arith)
 
-  places_are : seg row (at + 2) (references h) ≡ seg row (at + 2) (references_of (get_or row at 0))
+  places_are : seg row (at + 2) (references h) ≡ seg row (at + 2) (references (unpacked (get_or row at 0)))
   places_are = ap (λ (x : Header). seg row (at + 2) (references x)) head
 
   headed : is_well_formed (get_or row at 0) ≡ well_formed h

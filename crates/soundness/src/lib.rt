@@ -3,7 +3,7 @@
 
 ghost use Rattle.std.specs.Prelude.{◌≡◌, ◌+◌, ◌*◌, ◌<◌, ◌≤◌, true, ◌&&◌, length, ◌==◌, nat_lt, slice_index};
 ghost use Rattle.layout.specs.Cells.{layout, number, seg};
-ghost use Rattle.layout.specs.Map.{base};
+ghost use Rattle.layout.specs.Map.{base, none_at, root_at};
 ghost use Rattle.layout.specs.Sound.{all_of, cell_ok, ends, none_header, reference_ok, root_header, sound};
 ghost use Rattle.soundness.specs.Walkable.{IsWalkable};
 ghost use Rattle.store.specs.Frame.{Looks, TouchesAtMost};
@@ -17,10 +17,12 @@ use words::names::Addr;
 pub fn is_sound<W: Words>(m: &mut Manager<W>) -> bool
     requires fits { 64 + m.old.slots ≤ length (W.Words.row m.old.words) }
     requires short { length (W.Words.row m.old.words) < 72057594037927936 }
-    requires few { W.touched m.old.words + length (W.Words.row m.old.words) * (1 + length (W.Words.row m.old.words)) ≤ 9223372036854775808 }
+    requires few { let n = length (W.Words.row m.old.words) in
+        W.touched m.old.words + n * (1 + n) ≤ 9223372036854775808 }
     ensures value { result ≡ sound m.old.slots (W.Words.row m.old.words) }
     ensures looks { Looks W.Words m.old m.new }
-    ensures touches { TouchesAtMost (length (W.Words.row m.old.words) * (1 + length (W.Words.row m.old.words))) W.Words m.old m.new }
+    ensures touches { let n = length (W.Words.row m.old.words) in
+        TouchesAtMost (n * (1 + n)) W.Words m.old m.new }
 {
     if !has_sentinels(m) {
         return false;
@@ -42,11 +44,14 @@ pub fn is_sound<W: Words>(m: &mut Manager<W>) -> bool
 fn has_sentinels<W: Words>(m: &mut Manager<W>) -> bool
     requires fits { 64 + m.old.slots ≤ length (W.Words.row m.old.words) }
     requires few { W.touched m.old.words + 2 ≤ 9223372036854775808 }
-    ensures value { result ≡ (slice_index (W.Words.row m.old.words) 0 == none_header) && (slice_index (W.Words.row m.old.words) 62 == root_header m.old.slots) }
+    ensures value { let row = W.Words.row m.old.words in
+        result ≡ (slice_index row none_at == none_header)
+        && (slice_index row root_at == root_header m.old.slots) }
     ensures looks { Looks W.Words m.old m.new }
     ensures touches { TouchesAtMost 2 W.Words m.old m.new }
 {
-    m.words.get(NONE) == none_header().pack() && m.words.get(ROOT) == Header::plain(m.slots, 0).pack()
+    m.words.get(NONE) == none_header().pack()
+        && m.words.get(ROOT) == Header::plain(m.slots, 0).pack()
 }
 
 // Do the objects, from header to header, end where the free words begin? Here and below `free` is no field beside the
@@ -54,7 +59,8 @@ fn has_sentinels<W: Words>(m: &mut Manager<W>) -> bool
 fn tiles<W: Words>(m: &mut Manager<W>, free: usize) -> bool
     requires walkable { IsWalkable free W.Words m.old }
     requires few { W.touched m.old.words + free ≤ 9223372036854775808 }
-    ensures value { result ≡ ends (layout m.old.slots (W.Words.row m.old.words)) (base m.old.slots) free }
+    ensures value { let cs = layout m.old.slots (W.Words.row m.old.words) in
+        result ≡ ends cs (base m.old.slots) free }
     ensures looks { Looks W.Words m.old m.new }
     ensures touches { TouchesAtMost free W.Words m.old m.new }
 {
@@ -68,7 +74,8 @@ fn tiles<W: Words>(m: &mut Manager<W>, free: usize) -> bool
 fn begins<W: Words>(m: &mut Manager<W>, free: usize, there: Addr) -> bool
     requires walkable { IsWalkable free W.Words m.old }
     requires few { W.touched m.old.words + free ≤ 9223372036854775808 }
-    ensures value { result ≡ nat_lt 0 (number (layout m.old.slots (W.Words.row m.old.words)) there.0) }
+    ensures value { let cs = layout m.old.slots (W.Words.row m.old.words) in
+        result ≡ nat_lt 0 (number cs there.0) }
     ensures looks { Looks W.Words m.old m.new }
     ensures touches { TouchesAtMost free W.Words m.old m.new }
 {
@@ -87,7 +94,8 @@ fn is_reference<W: Words>(m: &mut Manager<W>, free: usize, at: usize) -> bool
     requires walkable { IsWalkable free W.Words m.old }
     requires within { at < length (W.Words.row m.old.words) }
     requires few { W.touched m.old.words + (1 + free) ≤ 9223372036854775808 }
-    ensures value { result ≡ reference_ok (layout m.old.slots (W.Words.row m.old.words)) (slice_index (W.Words.row m.old.words) at) }
+    ensures value { let row = W.Words.row m.old.words in
+        result ≡ reference_ok (layout m.old.slots row) (slice_index row at) }
     ensures looks { Looks W.Words m.old m.new }
     ensures touches { TouchesAtMost (1 + free) W.Words m.old m.new }
 {
@@ -106,7 +114,8 @@ fn are_references<W: Words>(m: &mut Manager<W>, free: usize, from: usize, count:
     requires walkable { IsWalkable free W.Words m.old }
     requires within { from + count ≤ length (W.Words.row m.old.words) }
     requires few { W.touched m.old.words + count * (1 + free) ≤ 9223372036854775808 }
-    ensures value { result ≡ all_of (reference_ok (layout m.old.slots (W.Words.row m.old.words))) (seg (W.Words.row m.old.words) from count) }
+    ensures value { let row = W.Words.row m.old.words in
+        result ≡ all_of (reference_ok (layout m.old.slots row)) (seg row from count) }
     ensures looks { Looks W.Words m.old m.new }
     ensures touches { TouchesAtMost (count * (1 + free)) W.Words m.old m.new }
 {
@@ -122,11 +131,15 @@ fn are_references<W: Words>(m: &mut Manager<W>, free: usize, from: usize, count:
 // Has every object a well-formed header, and references where its kind has them?
 fn are_objects<W: Words>(m: &mut Manager<W>, free: usize) -> bool
     requires walkable { IsWalkable free W.Words m.old }
-    requires tiled { ends (layout m.old.slots (W.Words.row m.old.words)) (base m.old.slots) free ≡ true }
-    requires few { W.touched m.old.words + free * (1 + free) ≤ 9223372036854775808 + base m.old.slots * (1 + free) }
-    ensures value { result ≡ all_of (cell_ok (layout m.old.slots (W.Words.row m.old.words)) (W.Words.row m.old.words)) (layout m.old.slots (W.Words.row m.old.words)) }
+    requires tiled { let cs = layout m.old.slots (W.Words.row m.old.words) in
+        ends cs (base m.old.slots) free ≡ true }
+    requires few { W.touched m.old.words + free * (1 + free)
+        ≤ 9223372036854775808 + base m.old.slots * (1 + free) }
+    ensures value { let row = W.Words.row m.old.words in let cs = layout m.old.slots row in
+        result ≡ all_of (cell_ok cs row) cs }
     ensures looks { Looks W.Words m.old m.new }
-    ensures touches { W.touched m.new.words + base m.old.slots * (1 + free) ≤ W.touched m.old.words + free * (1 + free) }
+    ensures touches { W.touched m.new.words + base m.old.slots * (1 + free)
+        ≤ W.touched m.old.words + free * (1 + free) }
 {
     let at = Addr(m.base());
     let mut objects = Objects { at, end: free };

@@ -36,7 +36,8 @@ impl Traced {
         ensures words { self.new.words ≡ self.old.words }
         ensures count { self.new.count ≡ self.old.count + 1 }
         ensures trace { Noted i self.old.trace self.new.trace }
-        ensures room { IfSome self.old.trace (λ t. vec_len t < vec_capacity t → IsSome self.new.trace) }
+        ensures room { IfSome self.old.trace
+            (λ t. vec_len t < vec_capacity t → IsSome self.new.trace) }
     {
         self.count += 1;
         if let Some(trace) = &mut self.trace

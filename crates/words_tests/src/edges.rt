@@ -3,6 +3,7 @@ use std::test::Fail;
 use traced::Traced;
 use words::Words;
 use words::header::Header;
+use words::kind::Kind;
 use words::lent::Lent;
 use words::names::Addr;
 use words::reference::Reference;
@@ -18,6 +19,21 @@ fn full_header_comes_back(rt: HostRuntime) {
     assert_eq!(rt; full.pack(), 0xffff_0000_ffff_ffff);
     assert_eq!(rt; Header::unpack(0xffff_0000_ffff_ffff), full);
     assert_eq!(rt; full.unmarked().pack(), 0xfffe_0000_ffff_ffff);
+}
+
+#[test]
+fn unknown_kinds_are_weighed_and_not_well_formed(rt: HostRuntime) {
+    assert_eq!(rt; Kind::at(0), Some(Kind::Plain));
+    let odd = Header::unpack(1 << 49 | 0x2_0003);
+    assert_eq!(rt; Kind::at(odd.kind), None);
+    assert!(rt; !odd.is_well_formed());
+    assert_eq!(rt; odd.weight(), 7);
+    let plain = Header::plain(3, 2);
+    assert!(rt; plain.is_well_formed());
+    assert!(rt; !plain.advance().is_well_formed());
+    assert_eq!(rt; plain.place_count(), 3);
+    assert_eq!(rt; plain.word_count(), 2);
+    assert_eq!(rt; plain.references(), 3);
 }
 
 #[test]

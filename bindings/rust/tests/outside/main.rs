@@ -1,10 +1,7 @@
-//! Tests of the memory manager from outside, through the safe wrapper, against a plain world written here on its own.
+//! Tests of the memory manager from outside, through the safe wrapper: scripts that the program `play` has answered are replayed,
+//! and rows are compared with those that the tests in C have left.
 mod calls;
 mod damaged;
 mod edges;
-mod game;
-mod plain;
-mod random;
-mod random_scripts;
-mod row;
-mod worked;
+mod replay;
+mod scripts;
