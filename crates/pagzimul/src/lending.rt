@@ -48,8 +48,11 @@ pub fn with_manager<'a, R, F: FnOnce(&mut Manager<Lent<'a>>) -> R>(
 ) -> (Counted<R>, &'a mut [u64])
     requires few { slots < 65536 }
     requires takes { FnOnceTakesAtMut F.FnOnce work (managed words slots) }
-    requires keeps { (r : _) (m : _) → FnOnceReturnsAtMut F.FnOnce work (managed words slots) r m → m.words.words.ghost_name ≡ words.ghost_name }
-    ensures does { (m : _) × FnOnceReturnsAtMut F.FnOnce work (managed words.entry slots) result.0.given m × (m.words.words.now ≡ result.1.now) × (m.words.count ≡ result.0.touched) }
+    requires keeps { (r : _) (m : _) → FnOnceReturnsAtMut F.FnOnce work (managed words slots) r m
+        → m.words.words.ghost_name ≡ words.ghost_name }
+    ensures does { let from = managed words.entry slots in
+        (m : _) × FnOnceReturnsAtMut F.FnOnce work from result.0.given m
+        × (m.words.words.now ≡ result.1.now) × (m.words.count ≡ result.0.touched) }
     ensures lender { result.1.ghost_name ≡ words.entry.ghost_name }
 {
     let mut m = Manager {
@@ -77,14 +80,17 @@ pub extern "C" fn pagzimul_start(words: &mut [u64], slots: u64) -> bool
     if !pagzimul_fits(words, slots) {
         return false;
     }
-    with_manager(words, slots, |m| start(m)).0.within(67 + slots);
+    with_manager(words, slots, |m| start(m))
+        .0
+        .within(67 + slots);
     true
 }
 
 // Do the words hold a sound heap with so many slots? They stay as they are.
 #[unsafe(no_mangle)]
 pub extern "C" fn pagzimul_is_sound(words: &mut [u64], slots: u64) -> bool
-    ensures value { result ≡ (nat_le (length words.old) 3000000000 && (startable (length words.old) slots && sound slots words.old)) }
+    ensures value { let count = length words.old in
+        result ≡ (nat_le count 3000000000 && (startable count slots && sound slots words.old)) }
     ensures usable { result ≡ true → Usable slots words.new }
     ensures same { words.new ≡ words.old }
 {
@@ -92,5 +98,7 @@ pub extern "C" fn pagzimul_is_sound(words: &mut [u64], slots: u64) -> bool
         return false;
     }
     let count = words.len() as u64;
-    with_manager(words, slots, |m| is_sound(m)).0.within(count * (1 + count))
+    with_manager(words, slots, |m| is_sound(m))
+        .0
+        .within(count * (1 + count))
 }
