@@ -9,9 +9,9 @@ ghost use Rattle.heap.specs.Says.{PlaySays};
 ghost use Rattle.heap.specs.Playing.{Stands, Turns, Played, PlaysAs};
 
 use crate::calling::call;
+use mutator::{Ask, Entry, Number, Numbers, Refusal, Told};
 use store::{Manager, fits, start};
 use words::lent::Lent;
-use mutator::{Ask, Entry, Number, Numbers, Refusal, Told};
 
 // Is it no slot, or one that is there?
 fn there(slots: u16, number: Number) -> bool

@@ -45,8 +45,11 @@ pub fn with_manager<'a, R, F: FnOnce(&mut Manager<Lent<'a>>) -> R>(
 ) -> (Counted<R>, &'a mut [u64])
     requires few { slots < 65536 }
     requires takes { FnOnceTakesAtMut F.FnOnce work (managed words slots) }
-    requires keeps { (r : _) (m : _) → FnOnceReturnsAtMut F.FnOnce work (managed words slots) r m → m.words.words.ghost_name ≡ words.ghost_name }
-    ensures does { (m : _) × FnOnceReturnsAtMut F.FnOnce work (managed words.entry slots) result.0.given m × (m.words.words.now ≡ result.1.now) × (m.words.count ≡ result.0.touched) }
+    requires keeps { (r : _) (m : _) → FnOnceReturnsAtMut F.FnOnce work (managed words slots) r m
+        → m.words.words.ghost_name ≡ words.ghost_name }
+    ensures does { let from = managed words.entry slots in
+        (m : _) × FnOnceReturnsAtMut F.FnOnce work from result.0.given m
+        × (m.words.words.now ≡ result.1.now) × (m.words.count ≡ result.0.touched) }
     ensures lender { result.1.ghost_name ≡ words.entry.ghost_name }
 {
     let mut m = Manager {
