@@ -1,5 +1,6 @@
 // The calls on a small row, with what they answer and touch.
 use calls::{clear, copy, get, read, same, set, sizes, write};
+use mutator::{Ask, Told};
 use soundness::is_sound;
 use std::alloc::Global;
 use std::process::Abort;
@@ -7,7 +8,6 @@ use std::test::Fail;
 use store::{Manager, fits};
 use traced::Traced;
 use words::Words;
-use mutator::{Ask, Told};
 
 // Three slots and 75 words. In slot 0 is an object at 67 with two places and the word 7, in slot 2 one
 // at 72 with the word 9, which is the last word of all; the first place of the first holds the second.

@@ -9,12 +9,12 @@ ghost use Rattle.driver.specs.Playing.{Answered, Ends, printed};
 
 use crate::fault::Fault;
 use crate::reading::Script;
+use mutator::Told;
 use script::AnswerText;
 use std::alloc::AllocError;
 use std::io::{BufWriter, Stdout, Write};
 use std::process::ExitCode;
 use std::{fmt, io};
-use mutator::Told;
 
 // Standard output, to be written in large pieces.
 pub fn open_output(rt: &HostRuntime) -> Result<BufWriter<Stdout>, Fault>

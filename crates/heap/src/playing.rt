@@ -9,9 +9,9 @@ ghost use Rattle.heap.specs.Says.{PlaySays};
 ghost use Rattle.heap.specs.Playing.{Stands, Turns, Played, PlaysAs};
 
 use crate::calling::call;
+use mutator::{Ask, Entry, Number, Numbers, Refusal, Told};
 use store::{Manager, fits, start};
 use words::lent::Lent;
-use mutator::{Ask, Entry, Number, Numbers, Refusal, Told};
 
 // Is it no slot, or one that is there?
 fn there(slots: u16, number: Number) -> bool
@@ -92,7 +92,12 @@ fn take_turn(m: &mut Manager<Lent<'_>>, ready: bool, q: &Ask) -> Turn
 // The one loop that plays a script. Of each turn that is kept which `T` is made of it: the answer, or the touches. An answer
 // goes to the place that `enumerate` says: zipped with `iter_mut` (tried), an invariant has no name for the elements that
 // are done.
-pub fn play_on<T: From<Turn> + Copy>(script: &[Ask], m: &mut Manager<Lent<'_>>, ready: bool, out: &mut [T])
+pub fn play_on<T: From<Turn> + Copy>(
+    script: &[Ask],
+    m: &mut Manager<Lent<'_>>,
+    ready: bool,
+    out: &mut [T],
+)
     requires room { length script.now ≤ length out.old }
     requires stands { Stands ready m.old.slots m.old.words.words.now }
     ensures slots { m.new.slots ≡ m.old.slots }

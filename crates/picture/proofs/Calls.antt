@@ -1,5 +1,5 @@
 -- Calls that are played one after the other, and a sweep behind them.
-use Rattle.std.proofs.Common.{◌≡◌, ℕ, ◌+◌, ◌≤◌, Bool, true, false, List, [], ◌∷◌, ◌++◌, length, refl, ap, ◌∙◌, subst}
+use Rattle.std.proofs.Common.{◌≡◌, ℕ, ◌+◌, ◌≤◌, Bool, true, false, List, length, refl, ap, ◌∙◌, subst}
 use Rattle.mutator.specs.declared.Ask.{Ask}
 use Rattle.world.specs.World.{World, blank}
 use Rattle.world.specs.Alike.{Alike}

@@ -1,7 +1,7 @@
 -- A heap that stands for a world alike to the one after a script's calls.
 use Rattle.std.specs.Prelude.{◌≡◌, ℕ, ◌+◌, ◌<◌, ◌≤◌, Bool, true, List, length}
 use Rattle.mutator.specs.declared.Ask.{Ask}
-use Rattle.world.specs.World.{World, blank, weight}
+use Rattle.world.specs.World.{blank, weight}
 use Rattle.world.specs.Alike.{Alike}
 use Rattle.heap.specs.Playing.{world_after}
 use Rattle.world.specs.Room.{room}

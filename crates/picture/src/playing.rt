@@ -7,11 +7,11 @@ use crate::spot::Spot;
 use crate::survey::survey;
 use collector::collect;
 use heap::play_on;
+use mutator::{Ask, Told};
 use std::alloc::{AllocError, Global};
 use store::{Manager, fits, start};
 use words::Words;
 use words::lent::Lent;
-use mutator::{Ask, Told};
 
 // Why there is no heap to show.
 #[derive(Clone, Copy, PartialEq, Eq, Debug)]

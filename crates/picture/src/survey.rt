@@ -1,7 +1,9 @@
 // What stands at each word of a heap, read off its words.
 ghost use Rattle.std.specs.Prelude.{◌≡◌, ◌+◌, ◌-◌, ◌≤◌, not, ◌==◌, [], ◌∷◌, map, length, IfOk};
 ghost use Rattle.layout.specs.Cells.{base, cell, free_of, layout, seg};
+ghost use Rattle.words.specs.Kinds.{place_count, weight, word_count};
 ghost use Rattle.store.specs.Frame.{IsOpenFor, IsReady};
+ghost use Rattle.store.specs.Ready.{word_at};
 ghost use Rattle.picture.specs.Puts.{Ends, Puts, marked_objects};
 ghost use Rattle.picture.specs.Spots.{cell_of, free_words, place_of, slots_of, spots, word_of};
 
@@ -56,9 +58,14 @@ fn put_object<W: Words>(
     m: &mut Manager<W>,
     object: Object,
 ) -> Result<(), AllocError>
-    requires open { IsOpenFor (object.header.places + object.header.words) W.Words m.old }
-    requires within { object.at.0 + (2 + (object.header.places + object.header.words)) ≤ length (W.Words.row m.old.words) }
-    ensures { IfOk result (λ _. Puts W.Words (object.header.places + object.header.words) (cell_of (not (object.header.mark == 0)) (W.Words.row m.old.words) (record { start = object.at.0; places = object.header.places; count = object.header.words })) spots.old.items spots.new.items m.old m.new) }
+    requires open { let h = object.header in
+        IsOpenFor (place_count h + word_count h) W.Words m.old }
+    requires within { object.at.0 + weight object.header ≤ length (W.Words.row m.old.words) }
+    ensures { IfOk result (λ _. let h = object.header in
+        Puts W.Words (place_count h + word_count h)
+        (cell_of (not (h.mark == 0)) (W.Words.row m.old.words)
+        (record { start = object.at.0; places = place_count h; count = word_count h }))
+        spots.old.items spots.new.items m.old m.new) }
 {
     let reached = object.header.is_marked();
     spots.push(Spot::of(reached, Part::Header))?;
@@ -73,11 +80,15 @@ fn put_places<W: Words>(
     object: Object,
     reached: bool,
 ) -> Result<(), AllocError>
-    requires open { IsOpenFor object.header.places W.Words m.old }
-    requires within { object.at.0 + 2 + object.header.places ≤ length (W.Words.row m.old.words) }
-    ensures { IfOk result (λ _. Puts W.Words object.header.places (map (place_of reached) (seg (W.Words.row m.old.words) (object.at.0 + 2) object.header.places)) spots.old.items spots.new.items m.old m.new) }
+    requires open { IsOpenFor (place_count object.header) W.Words m.old }
+    requires within { let n = place_count object.header in
+        object.at.0 + 2 + n ≤ length (W.Words.row m.old.words) }
+    ensures { IfOk result (λ _. let n = place_count object.header in
+        let places = seg (W.Words.row m.old.words) (object.at.0 + 2) n in
+        Puts W.Words n (map (place_of reached) places)
+        spots.old.items spots.new.items m.old m.new) }
 {
-    for i in 0..object.header.places {
+    for i in 0..object.header.place_count() {
         let target = m.place(object, Place(i as u64));
         spots.push(Spot::of(reached, Part::Place(target)))?;
     }
@@ -90,11 +101,15 @@ fn put_words<W: Words>(
     object: Object,
     reached: bool,
 ) -> Result<(), AllocError>
-    requires open { IsOpenFor object.header.words W.Words m.old }
-    requires within { object.at.0 + 2 + object.header.places + object.header.words ≤ length (W.Words.row m.old.words) }
-    ensures { IfOk result (λ _. Puts W.Words object.header.words (map (word_of reached) (seg (W.Words.row m.old.words) (object.at.0 + 2 + object.header.places) object.header.words)) spots.old.items spots.new.items m.old m.new) }
+    requires open { IsOpenFor (word_count object.header) W.Words m.old }
+    requires within { let n = word_count object.header in
+        word_at object n ≤ length (W.Words.row m.old.words) }
+    ensures { IfOk result (λ _. let n = word_count object.header in
+        let words = seg (W.Words.row m.old.words) (word_at object 0) n in
+        Puts W.Words n (map (word_of reached) words)
+        spots.old.items spots.new.items m.old m.new) }
 {
-    for i in 0..object.header.words {
+    for i in 0..object.header.word_count() {
         let word = m.word(object, WordIndex(i as u64));
         spots.push(Spot::of(reached, Part::Word(word)))?;
     }
@@ -105,7 +120,7 @@ fn put_free<W: Words>(spots: &mut Vec<Spot>, m: &mut Manager<W>) -> Result<(), A
     requires { IsOpenFor 1 W.Words m.old }
     ensures { IfOk result (λ _. Puts W.Words 1 (free_words (W.Words.row m.old.words)) spots.old.items spots.new.items m.old m.new) }
 {
-    for _ in m.free()..m.words.count() {
+    for _ in m.free()..m.limit() {
         spots.push(Spot::Free)?;
     }
     Ok(())

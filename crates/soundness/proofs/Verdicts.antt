@@ -1,12 +1,18 @@
--- From the tests to the verdict, and the sum of what was touched.
+-- From the tests to the verdict.
 use Rattle.std.proofs.Common.{◌≡◌, ℕ, zero, suc, ◌+◌, ◌*◌, ◌<◌, ◌≤◌, Bool, true, false, ◌&&◌, eqb, List, [], ◌∷◌, length, get_or, sym, refl, ap, ◌∙◌, arith}
 use mathlib.Core.Option.{some}
 use Rattle.std.proofs.lemmas.Bool.{and_parts, le-leb, lt-leb}
-use Rattle.std.proofs.lemmas.Nat.{mul-le}
 use Rattle.world.specs.Base.{nth}
-use Rattle.layout.specs.Cells.{base, free_of, layout, seg}
+use Rattle.layout.specs.Map.{addresses, base, free_of}
+use Rattle.layout.specs.Cells.{Cell, layout, seg}
 use Rattle.layout.specs.Sound.{all_of, all_true, none_header, root_header, ends, reference_ok, cell_ok, tests, sound}
 use Rattle.layout.proofs.Lists.{none_some, some_some}
+use Rattle.soundness.specs.Walkable.{Walkable, Tiling}
+use Rattle.soundness.specs.Stamps.{header_ok, places_ok, all_refer}
+use Rattle.soundness.specs.Costs.{places_in}
+use Rattle.soundness.proofs.Going.{tiled_cost}
+use Rattle.soundness.proofs.Stamping.{tiled_of}
+use Rattle.soundness.proofs.Twice.{all_both}
 
 -- one test that fails is enough
 false_at : (bs : List Bool) (i : ℕ) → nth bs i ≡ some false → all_true bs ≡ false
@@ -17,6 +23,10 @@ false_at (b ∷ bs) (suc i) e = by b (false_at bs i e)
     by : (c : Bool) → all_true bs ≡ false → c && all_true bs ≡ false
     by true h = h
     by false h = refl
+
+-- the two halves of what is asked of objects
+cells_split : (row : List ℕ) (cs ds : List Cell) → all_of (header_ok row) ds && all_of (places_ok cs row) ds ≡ all_of (cell_ok cs row) ds
+cells_split row cs ds = all_both (header_ok row) (places_ok cs row) (cell_ok cs row) ds (λ i x e. refl)
 
 module _ (slots : ℕ) (row : List ℕ) where
   -- no sentinels
@@ -34,44 +44,57 @@ module _ (slots : ℕ) (row : List ℕ) where
   unfolding sound
   unsound_2 l = sym (false_at (tests slots row (layout slots row)) 2 (ap some (lt-leb (free_of row) (length row) l)))
 
-  module _ (slots1 : ℕ) (row1 : List ℕ) (e : row1 ≡ row) (f : slots1 ≡ slots) where
-    -- objects that do not end there
-    pub ends_is : (b : Bool) (free : ℕ) → free ≡ free_of row → b ≡ ends (layout slots1 row1) (base slots1) free → ends (layout slots row) (base slots) (free_of row) ≡ b
-    ends_is b free q h = cc
-
-    pub objects_are : (b : Bool) → b ≡ all_of (cell_ok (layout slots1 row1) row1) (layout slots1 row1) → all_of (cell_ok (layout slots row) row) (layout slots row) ≡ b
-    objects_are b h = cc
-
-    pub references_are : (b : Bool) → b ≡ all_of (reference_ok (layout slots1 row1)) (seg row1 64 slots1) → all_of (reference_ok (layout slots row)) (seg row 64 slots) ≡ b
-    references_are b h = cc
-
-  pub unsound_3 : ends (layout slots row) (base slots) (free_of row) ≡ false → false ≡ sound slots row
+  -- objects that do not end there, or a header that is not well formed
+  pub unsound_3 : (slots1 : ℕ) (row1 : List ℕ) (free : ℕ) → row1 ≡ row → slots1 ≡ slots → free ≡ free_of row → false ≡ all_of (header_ok row1) (layout slots1 row1) && ends (layout slots1 row1) (base slots1) free → false ≡ sound slots row
   unfolding sound
-  unsound_3 h = sym (false_at (tests slots row (layout slots row)) 3 (ap some h))
+  unsound_3 slots1 row1 free e f q h = by (all_of (header_ok row) (layout slots row)) refl (ends (layout slots row) (base slots) (free_of row)) refl (rw (e, f, q) at h)
+    where
+      by : (a : Bool) → all_of (header_ok row) (layout slots row) ≡ a → (b : Bool) → ends (layout slots row) (base slots) (free_of row) ≡ b → false ≡ all_of (header_ok row) (layout slots row) && ends (layout slots row) (base slots) (free_of row) → false ≡ all_true (tests slots row (layout slots row))
+      by a p false r z = sym (false_at (tests slots row (layout slots row)) 3 (ap some r))
+      by false p true r z = sym (false_at (tests slots row (layout slots row)) 4 (ap some (sym (cells_split row (layout slots row) (layout slots row)) ∙ ap (λ (x : Bool). x && all_of (places_ok (layout slots row) row) (layout slots row)) p)))
+      by true p true r z = absurd (let n : ◌≡◌ {A = Bool} false true = z ∙ rw (p, r) in let m : ◌≡◌ {A = ℕ} 0 1 = cc in omega arith)
 
-  -- an object that is not sound
-  pub unsound_4 : all_of (cell_ok (layout slots row) row) (layout slots row) ≡ false → false ≡ sound slots row
+  -- all but the references: then these decide
+  pub sound_by : (b : Bool) → true ≡ eqb (get_or row 0 0) none_header && eqb (get_or row 62 0) (root_header slots) → free_of row ≤ length row
+      → ends (layout slots row) (base slots) (free_of row) ≡ true → all_of (header_ok row) (layout slots row) ≡ true
+      → b ≡ all_refer slots (layout slots row) row → b ≡ sound slots row
   unfolding sound
-  unsound_4 h = sym (false_at (tests slots row (layout slots row)) 4 (ap some h))
-
-  -- all but the slots: then the slots decide
-  pub sound_by_slots : (b : Bool) → true ≡ eqb (get_or row 0 0) none_header && eqb (get_or row 62 0) (root_header slots) → free_of row ≤ length row
-      → ends (layout slots row) (base slots) (free_of row) ≡ true → all_of (cell_ok (layout slots row) row) (layout slots row) ≡ true
-      → all_of (reference_ok (layout slots row)) (seg row 64 slots) ≡ b → b ≡ sound slots row
-  unfolding sound
-  sound_by_slots b s l t o r =
+  sound_by b s l t o r =
       let p = and_parts (eqb (get_or row 0 0) none_header) (eqb (get_or row 62 0) (root_header slots)) (sym s) in
       let q = le-leb (free_of row) (length row) l in
-      sym (rw (p.0, p.1, q, t, o, r) (last b))
+      let k : all_of (cell_ok (layout slots row) row) (layout slots row) ≡ all_of (places_ok (layout slots row) row) (layout slots row) = sym (cells_split row (layout slots row) (layout slots row)) ∙ ap (λ (x : Bool). x && all_of (places_ok (layout slots row) row) (layout slots row)) o in
+      r ∙ sym (rw (p.0, p.1, q, t, k) (last (all_of (places_ok (layout slots row) row) (layout slots row)) (all_of (reference_ok (layout slots row)) (seg row 64 slots))))
     where
-      last : (c : Bool) → true && (true && (true && (true && (true && (c && true))))) ≡ c
-      last true = refl
-      last false = refl
+      last : (c d : Bool) → true && (true && (true && (true && (c && (d && true))))) ≡ d && c
+      last true true = refl
+      last true false = refl
+      last false true = refl
+      last false false = refl
 
--- objects that end there still do, in a row that is as it was
-pub ends_after : (slots slots1 : ℕ) (row row1 : List ℕ) (free : ℕ) → row1 ≡ row → slots1 ≡ slots → true ≡ ends (layout slots row) (base slots) free → ends (layout slots1 row1) (base slots1) free ≡ true
-ends_after slots slots1 row row1 free e f h = cc
+-- where the free words begin within a row that was only looked at since
+pub walkable_of : (slots : ℕ) (row row1 row2 : List ℕ) (free : ℕ) → base slots ≤ length row → length row < addresses → row1 ≡ row → free ≡ free_of row1 → row2 ≡ row1 → free ≤ length row2 → Walkable slots row free
+walkable_of slots row row1 row2 free a b e q f l = record { fits = a; short = b; free_is = q ∙ ap free_of e; within = rw (f, e) at l }
 
--- the square of the words covers the first walks, and the walks for each reference
-pub covers : (free n : ℕ) → 64 ≤ n → (4096 + n ≤ n * (1 + n)) × (free ≤ n → free * (1 + free) ≤ n * (1 + n))
-covers free n l = (omega (arith, mul-le 64 64 n n l l), λ m. mul-le free (1 + free) n (1 + n) m (omega arith))
+-- a row whose objects have well-formed headers and end where the free words begin, and what they cost
+pub record Begun (slots : ℕ) (row : List ℕ) (free : ℕ) : Type 0 where
+  pub tiling : Tiling slots row free
+  pub clean : all_of (header_ok row) (layout slots row) ≡ true
+  pub cost : base slots + (2 * length (layout slots row) + places_in (layout slots row)) ≤ free
+
+pub begun : (slots : ℕ) (row : List ℕ) (free slots1 : ℕ) (row1 : List ℕ) → Walkable slots row free → slots1 ≡ slots → row1 ≡ row → true ≡ all_of (header_ok row1) (layout slots1 row1) && ends (layout slots1 row1) (base slots1) free → Begun slots row free
+begun slots row free slots1 row1 w e f h =
+    let p = and_parts (all_of (header_ok row) (layout slots row)) (ends (layout slots row) (base slots) free) (sym (rw (e, f) at h)) in
+    let t : Tiling slots row free = record { walkable = w; ends = p.1 } in
+    record { tiling = t; clean = p.0; cost = tiled_cost row (base slots) free (layout slots row) (tiled_of slots row free t) }
+
+-- the same of a row that was only looked at
+pub begun_still : (slots : ℕ) (row : List ℕ) (free slots1 : ℕ) (row1 : List ℕ) → Begun slots row free → slots1 ≡ slots → row1 ≡ row → Begun slots1 row1 free
+begun_still slots row free slots1 row1 b e f = rw (e, f) b
+
+pub layout_still : (slots : ℕ) (row : List ℕ) (slots1 : ℕ) (row1 : List ℕ) → slots1 ≡ slots → row1 ≡ row → layout slots1 row1 ≡ layout slots row
+layout_still slots row slots1 row1 e f = cc
+
+pub references_still : (slots : ℕ) (row : List ℕ) (slots1 : ℕ) (row1 : List ℕ) → slots1 ≡ slots → row1 ≡ row → (b : Bool)
+    → b ≡ all_refer slots1 (layout slots1 row1) row1
+    → b ≡ all_refer slots (layout slots row) row
+references_still slots row slots1 row1 e f b h = rw (e, f) at h

@@ -1,24 +1,25 @@
 -- The tests in their order, each with what was touched so far.
-use Rattle.std.proofs.Common.{◌≡◌, ℕ, ◌+◌, ◌*◌, length, ap, ◌∙◌, arith}
-use Rattle.layout.specs.Cells.{free_of}
-use Rattle.store.proofs.Framing.{looked}
+use Rattle.std.proofs.Common.{◌≡◌, ℕ, length, sym, refl, ap, ◌∙◌, arith}
+use Rattle.layout.specs.Map.{free_of}
+use Rattle.layout.specs.Cells.{layout}
+use Rattle.store.proofs.Framing.{framed, looked}
+use Rattle.soundness.specs.Stamps.{stamped}
+use Rattle.soundness.proofs.Going.{few_objects}
 use Rattle.soundness.proofs.Judging.{walkable_still}
-use Rattle.soundness.proofs.Verdicts.{unsound_0, unsound_2, unsound_3, unsound_4, ends_is, objects_are, references_are, sound_by_slots, ends_after, covers}
+use Rattle.soundness.proofs.Verdicts.{unsound_0, unsound_2, unsound_3, sound_by, begun, begun_still, layout_still, references_still, walkable_of}
 use Rattle.soundness.proofs.is_sound.Goals as goal
 
 pub returns-then-not-has_sentinels : goal.returns-then-not-has_sentinels
 returns-then-not-has_sentinels g c =
     let k = c.if-not-has_sentinels.ensures in
-    let n = length (g.W.Words.row c.args.m.now.words) in
-    let v = (covers 0 n (omega arith)).0 in
+    let w = c.requires.open.fits in
     record { value = unsound_0 _ _ k.value; looks = k.looks; touches = omega arith }
 
 pub returns-then-free-limit : goal.returns-then-free-limit
 returns-then-free-limit g c =
     let k = c.if-not-has_sentinels.ensures in
     let f = c.free-free.ensures in
-    let n = length (g.W.Words.row c.args.m.now.words) in
-    let v = (covers 0 n (omega arith)).0 in
+    let w = c.requires.open.fits in
     let e = ap length (f.looks.same ∙ k.looks.same) in
     let r : c.free-free.result ≡ free_of (g.W.Words.row c.args.m.now.words) = f.value ∙ ap free_of k.looks.same in
     record { value = unsound_2 _ _ (omega arith); looks = looked f.looks k.looks; touches = omega arith }
@@ -27,12 +28,15 @@ pub tiles-requires : goal.tiles-requires
 tiles-requires g c =
     let k = c.if-not-has_sentinels.ensures in
     let f = c.free-free.ensures in
-    let n = length (g.W.Words.row c.args.m.now.words) in
-    let v = (covers 0 n (omega arith)).0 in
-    let e = ap length (f.looks.same ∙ k.looks.same) in
-    let r : c.free-free.result ≡ free_of (g.W.Words.row c.args.m.now.words) = f.value ∙ ap free_of k.looks.same in
+    let w = c.requires.open in
+    let u = looked f.looks k.looks in
+    let h = walkable_of _ _ _ _ _ w.fits w.short k.looks.same f.value f.looks.same (omega arith) in
+    let n = few_objects c.free-free.new.self.slots (g.W.Words.row c.free-free.new.self.words) in
+    let q : free_of (g.W.Words.row c.free-free.new.self.words) ≡ c.free-free.result = ap free_of u.same ∙ sym h.free_is in
+    let n1 = h.within in
+    let x = u.frame.slots in
     record {
-      walkable = walkable_still _ _ _ _ _ (record { fits = c.requires.fits; short = c.requires.short; free_is = r; within = omega arith }) (f.looks.same ∙ k.looks.same) (f.looks.frame.slots ∙ k.looks.frame.slots);
+      walkable = walkable_still _ _ _ _ _ h u.same u.frame.slots;
       few = omega arith;
     }
 
@@ -41,84 +45,71 @@ returns-then-not-tiles g c =
     let k = c.if-not-has_sentinels.ensures in
     let f = c.free-free.ensures in
     let t = c.if-not-tiles.ensures in
-    let n = length (g.W.Words.row c.args.m.now.words) in
-    let v = (covers 0 n (omega arith)).0 in
-    let e = ap length (f.looks.same ∙ k.looks.same) in
-    let r : c.free-free.result ≡ free_of (g.W.Words.row c.args.m.now.words) = f.value ∙ ap free_of k.looks.same in
-    record {
-      value = unsound_3 _ _ (ends_is _ _ _ _ (f.looks.same ∙ k.looks.same) (f.looks.frame.slots ∙ k.looks.frame.slots) _ _ r t.value);
-      looks = looked t.looks (looked f.looks k.looks);
-      touches = omega arith;
-    }
+    let w = c.requires.open in
+    let u = looked f.looks k.looks in
+    let h = walkable_of _ _ _ _ _ w.fits w.short k.looks.same f.value f.looks.same (omega arith) in
+    let n = few_objects c.free-free.new.self.slots (g.W.Words.row c.free-free.new.self.words) in
+    let q : free_of (g.W.Words.row c.free-free.new.self.words) ≡ c.free-free.result = ap free_of u.same ∙ sym h.free_is in
+    let n1 = h.within in
+    let x = u.frame.slots in
+    record { value = unsound_3 _ _ _ _ _ u.same u.frame.slots h.free_is t.value; looks = looked t.looks u; touches = omega arith }
 
-pub are_objects-requires : goal.are_objects-requires
-are_objects-requires g c =
+pub answer_twice-sound-requires : goal.answer_twice-sound-requires
+answer_twice-sound-requires g c =
     let k = c.if-not-has_sentinels.ensures in
     let f = c.free-free.ensures in
     let t = c.if-not-tiles.ensures in
-    let n = length (g.W.Words.row c.args.m.now.words) in
-    let e = ap length (f.looks.same ∙ k.looks.same) in
-    let r : c.free-free.result ≡ free_of (g.W.Words.row c.args.m.now.words) = f.value ∙ ap free_of k.looks.same in
-    let v = (covers c.free-free.result n (omega arith)).1 (omega arith) in
-    let s = t.looks.frame.slots ∙ f.looks.frame.slots ∙ k.looks.frame.slots in
-    record {
-      walkable = walkable_still _ _ _ _ _ (record { fits = c.requires.fits; short = c.requires.short; free_is = r; within = omega arith }) (t.looks.same ∙ f.looks.same ∙ k.looks.same) s;
-      tiled = ends_after _ _ _ _ _ t.looks.same t.looks.frame.slots t.value;
-      few = omega arith;
-    }
+    let w = c.requires.open in
+    let u = looked f.looks k.looks in
+    let v = looked t.looks u in
+    let h = walkable_of _ _ _ _ _ w.fits w.short k.looks.same f.value f.looks.same (omega arith) in
+    let b = begun _ _ _ _ _ h u.frame.slots u.same t.value in
+    let z = begun_still _ _ _ _ _ b v.frame.slots v.same in
+    let l = ap length (layout_still _ _ _ _ t.looks.frame.slots t.looks.same) in
+    let o = z.cost in
+    let x = v.frame.slots in
+    record { tiled = z.tiling; clean = z.clean; few = omega arith }
 
-pub returns-then-not-are_objects : goal.returns-then-not-are_objects
-returns-then-not-are_objects g c =
+pub stamp-requires : goal.stamp-requires
+stamp-requires g c =
     let k = c.if-not-has_sentinels.ensures in
     let f = c.free-free.ensures in
     let t = c.if-not-tiles.ensures in
-    let o = c.if-not-are_objects.ensures in
-    let n = length (g.W.Words.row c.args.m.now.words) in
-    let e = ap length (f.looks.same ∙ k.looks.same) in
-    let v = (covers c.free-free.result n (omega arith)).1 (omega arith) in
-    let s = t.looks.frame.slots ∙ f.looks.frame.slots ∙ k.looks.frame.slots in
-    record {
-      value = unsound_4 _ _ (objects_are _ _ _ _ (t.looks.same ∙ f.looks.same ∙ k.looks.same) s _ o.value);
-      looks = looked o.looks (looked t.looks (looked f.looks k.looks));
-      touches = omega arith;
-    }
-
-pub are_references-requires : goal.are_references-requires
-are_references-requires g c =
-    let k = c.if-not-has_sentinels.ensures in
-    let f = c.free-free.ensures in
-    let t = c.if-not-tiles.ensures in
-    let o = c.if-not-are_objects.ensures in
-    let n = length (g.W.Words.row c.args.m.now.words) in
-    let e = ap length (f.looks.same ∙ k.looks.same) in
-    let r : c.free-free.result ≡ free_of (g.W.Words.row c.args.m.now.words) = f.value ∙ ap free_of k.looks.same in
-    let v = (covers c.free-free.result n (omega arith)).1 (omega arith) in
-    let s = o.looks.frame.slots ∙ t.looks.frame.slots ∙ f.looks.frame.slots ∙ k.looks.frame.slots in
-    let p : c.are_objects.new.m.slots * (1 + c.free-free.result) ≡ c.tiles.new.m.slots * (1 + c.free-free.result) = ap (λ (x : ℕ). x * (1 + c.free-free.result)) o.looks.frame.slots in
-    let e2 = ap length (o.looks.same ∙ t.looks.same ∙ f.looks.same ∙ k.looks.same) in
-    record {
-      walkable = walkable_still _ _ _ _ _ (record { fits = c.requires.fits; short = c.requires.short; free_is = r; within = omega arith }) (o.looks.same ∙ t.looks.same ∙ f.looks.same ∙ k.looks.same) s;
-      within = omega arith;
-      few = omega arith;
-    }
+    let w = c.requires.open in
+    let u = looked f.looks k.looks in
+    let v = looked t.looks u in
+    let h = walkable_of _ _ _ _ _ w.fits w.short k.looks.same f.value f.looks.same (omega arith) in
+    let b = begun _ _ _ _ _ h u.frame.slots u.same t.value in
+    let a = c.answer_twice-sound.ensures in
+    let z = begun_still _ _ _ _ _ b v.frame.slots v.same in
+    let l = ap length (layout_still _ _ _ _ t.looks.frame.slots t.looks.same) in
+    let n = ap length (layout_still _ _ _ _ a.frame.slots refl ∙ a.stays.objects) in
+    let o = z.cost in
+    let x = v.frame.slots in
+    record { walkable = rw a.frame.slots a.stays.walkable; small = omega arith; few = omega arith }
 
 pub returns : goal.returns
 returns g c =
     let k = c.if-not-has_sentinels.ensures in
     let f = c.free-free.ensures in
     let t = c.if-not-tiles.ensures in
-    let o = c.if-not-are_objects.ensures in
-    let a = c.are_references.ensures in
-    let n = length (g.W.Words.row c.args.m.now.words) in
-    let e = ap length (f.looks.same ∙ k.looks.same) in
-    let r : c.free-free.result ≡ free_of (g.W.Words.row c.args.m.now.words) = f.value ∙ ap free_of k.looks.same in
-    let p : c.are_objects.new.m.slots * (1 + c.free-free.result) ≡ c.tiles.new.m.slots * (1 + c.free-free.result) = ap (λ (x : ℕ). x * (1 + c.free-free.result)) o.looks.frame.slots in
-    let v = (covers c.free-free.result n (omega arith)).1 (omega arith) in
+    let w = c.requires.open in
+    let u = looked f.looks k.looks in
+    let v = looked t.looks u in
+    let h = walkable_of _ _ _ _ _ w.fits w.short k.looks.same f.value f.looks.same (omega arith) in
+    let b = begun _ _ _ _ _ h u.frame.slots u.same t.value in
+    let a = c.answer_twice-sound.ensures in
+    let p = c.stamp.ensures in
+    let z = begun_still _ _ _ _ _ b v.frame.slots v.same in
+    let l = ap length (layout_still _ _ _ _ t.looks.frame.slots t.looks.same) in
+    let n = ap length (layout_still _ _ _ _ a.frame.slots refl ∙ a.stays.objects) in
+    let o = z.cost in
+    let x = v.frame.slots in
     record {
-      value = sound_by_slots _ _ _ k.value (omega arith)
-          (ends_is _ _ _ _ (f.looks.same ∙ k.looks.same) (f.looks.frame.slots ∙ k.looks.frame.slots) _ _ r t.value)
-          (objects_are _ _ _ _ (t.looks.same ∙ f.looks.same ∙ k.looks.same) (t.looks.frame.slots ∙ f.looks.frame.slots ∙ k.looks.frame.slots) _ o.value)
-          (references_are _ _ _ _ (o.looks.same ∙ t.looks.same ∙ f.looks.same ∙ k.looks.same) (o.looks.frame.slots ∙ t.looks.frame.slots ∙ f.looks.frame.slots ∙ k.looks.frame.slots) _ a.value);
-      looks = looked a.looks (looked o.looks (looked t.looks (looked f.looks k.looks)));
+      value = sound_by _ _ _ k.value (rw h.free_is at h.within) (rw h.free_is at b.tiling.ends) b.clean (references_still _ _ _ _ v.frame.slots v.same _ a.value);
+      looks = record {
+        same = p.after ∙ ap (λ (s : ℕ). stamped 0 (layout s (g.W.Words.row c.answer_twice-sound.new.m.words)) (g.W.Words.row c.answer_twice-sound.new.m.words)) a.frame.slots ∙ a.stays.back ∙ v.same;
+        frame = framed p.frame (framed a.frame v.frame);
+      };
       touches = omega arith;
     }

@@ -1,5 +1,5 @@
 -- From the empty heap over the calls and the sweep.
-use Rattle.std.proofs.Common.{◌≡◌, ◌+◌, ◌≤◌, length, sym, ap, ◌∙◌, arith}
+use Rattle.std.proofs.Common.{◌≡◌, ◌+◌, ◌≤◌, length, sym, ◌∙◌, arith}
 use Rattle.std.proofs.lemmas.Bool.{leb-true}
 use Rattle.layout.specs.Cells.{base}
 use Rattle.picture.proofs.Calls.{shows}
