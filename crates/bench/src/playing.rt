@@ -8,8 +8,8 @@ ghost use Rattle.bench.specs.Touches.{Bounded};
 
 use driver::lent_words;
 use heap::{play, play_as};
-use std::alloc::{AllocError, Global};
 use mutator::{Ask, Told};
+use std::alloc::{AllocError, Global};
 
 // A script, and how many words and slots it is played on.
 #[derive(Clone, Copy)]
