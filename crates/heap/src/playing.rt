@@ -1,12 +1,11 @@
 // A whole script on lent words, from the beginning.
 ghost use Rattle.std.specs.Prelude.{◌≡◌, ◌<◌, ◌≤◌, length};
-ghost use Rattle.mutator.specs.Numbers.{listed};
+ghost use Rattle.mutator.specs.Listed.{listed};
 ghost use Rattle.mutator.specs.TableLaws.{there as there_in, all_there as all_there_in};
 ghost use Rattle.world.specs.World.{blank};
 ghost use Rattle.mutator.specs.Script.{answer};
 ghost use Rattle.mutator.specs.Refusals.{said};
-ghost use Rattle.heap.specs.Says.{PlaySays};
-ghost use Rattle.heap.specs.Playing.{Stands, Turns, Played, PlaysAs};
+ghost use Rattle.heap.specs.Playing.{Stands, Turns, Played, PlaysAs, PlaySays};
 
 use crate::calling::call;
 use mutator::{Ask, Entry, Number, Numbers, Refusal, Told};

@@ -6,7 +6,8 @@ ghost use Rattle.layout.specs.Sound.{all_of, ends};
 ghost use Rattle.soundness.specs.Costs.{answer_cost, places_in};
 ghost use Rattle.soundness.specs.Stamps.{DiffersInMarks, all_answer, all_refer, answers, header_ok, object_answers, stamped};
 ghost use Rattle.soundness.specs.Walkable.{IsTiled, IsWalkable, MayTouch, objects};
-ghost use Rattle.store.specs.Frame.{Frame, Looks, Touches, TouchesAtMost};
+ghost use Rattle.store.specs.Frame.{Frame, Touches, TouchesAtMost};
+ghost use Rattle.store.specs.Accesses.{Looks};
 
 use store::{Manager, OWN, Object, Objects};
 use words::Words;
