@@ -105,7 +105,8 @@ impl Wanted {
 
 // What is drawn.
 fn look(heap: Global, size: HeapSize, calls: &[Ask], collected: bool) -> Result<Vec<Spot>, Failure>
-    ensures { MatchResult result (λ v. Shows size.words size.slots calls.now collected v.items) (λ e. Undrawn size e) }
+    ensures { MatchResult result (λ v. Shows size.words size.slots calls.now collected v.items)
+        (λ e. Undrawn size e) }
 {
     let mut words = lent_words(heap, size.words).map_err(|_| Failure::Script(Fault::NoMemory(1)))?;
     let moment = Moment {

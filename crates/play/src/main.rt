@@ -34,7 +34,8 @@ fn play_script<R: BufRead + Drop, W: Write>(
     input: R,
     out: &mut W,
 ) -> Result<(), Fault>
-    ensures { (r : _) × SaidBy (R.remaining input) r × PlaysRead r (W.contents out.old) (W.contents out.new) result }
+    ensures { (r : _) × SaidBy (R.remaining input) r
+        × PlaysRead r (W.contents out.old) (W.contents out.new) result }
 {
     let script = read_script(heap, input)?;
     let told = answer(heap, &script);

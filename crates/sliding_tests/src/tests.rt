@@ -49,7 +49,7 @@ fn everything_dead_goes(rt: HostRuntime) -> Result<(), Fail> {
     room[68] = 0x4600;
     room[70] = 0x0000_0002;
     room[72] = 0x4200;
-    assert_eq!(rt; slid(&mut room, 2), 11);
+    assert_eq!(rt; slid(&mut room, 2), 10);
     assert_eq!(rt; room[2], 66);
     assert_eq!(rt; room[62], 2);
     assert!(rt; room[64..66] == [0, 0]);
@@ -136,5 +136,24 @@ fn large_object_overlaps(rt: HostRuntime) -> Result<(), Fail> {
     assert!(rt; room[64..73] == [0x4200, 0, 0x0014_0001, 66, 0x4200, 1, 2, 3, 0]);
     assert!(rt; room[77..80] == [0, 10, 0]);
     assert!(rt; room[86..89] == [0, 19, 20]);
+    Ok(())
+}
+
+// Two are dead before the one that is kept, and three behind it: each run is one filler, read once by
+// the second pass and once by the third.
+#[test]
+fn runs_are_skipped(rt: HostRuntime) -> Result<(), Fail> {
+    let mut room = [0u64; 82];
+    room[0] = 0x1_003c_0000;
+    room[2] = 81;
+    room[62] = 0x3_0000_0002;
+    room[64] = 0x4700;
+    room[66] = 0x0001_0000;
+    room[71] = 0x1_0001_0001;
+    room[73] = 0x4700;
+    room[74] = 7;
+    assert_eq!(rt; slid(&mut room, 2), 32);
+    assert_eq!(rt; room[2], 70);
+    assert!(rt; room[64..70] == [0x4200, 0, 0x0001_0001, 66, 0x4200, 7]);
     Ok(())
 }

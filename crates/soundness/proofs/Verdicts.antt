@@ -1,17 +1,13 @@
 -- From the tests to the verdict.
-use Rattle.std.proofs.Common.{◌≡◌, ℕ, zero, suc, ◌+◌, ◌*◌, ◌<◌, ◌≤◌, Bool, true, false, ◌&&◌, eqb, List, [], ◌∷◌, length, get_or, sym, refl, ap, ◌∙◌, arith}
+use Rattle.std.proofs.Common.{◌≡◌, ℕ, zero, suc, ◌<◌, ◌≤◌, Bool, true, false, ◌&&◌, eqb, List, [], ◌∷◌, length, get_or, sym, refl, ap, ◌∙◌, arith}
 use mathlib.Core.Option.{some}
 use Rattle.std.proofs.lemmas.Bool.{and_parts, le-leb, lt-leb}
 use Rattle.world.specs.Base.{nth}
-use Rattle.layout.specs.Map.{addresses, base, free_of}
+use Rattle.layout.specs.Map.{base, free_of}
 use Rattle.layout.specs.Cells.{Cell, layout, seg}
 use Rattle.layout.specs.Sound.{all_of, all_true, none_header, root_header, ends, reference_ok, cell_ok, tests, sound}
 use Rattle.layout.proofs.Lists.{none_some, some_some}
-use Rattle.soundness.specs.Walkable.{Walkable, Tiling}
 use Rattle.soundness.specs.Stamps.{header_ok, places_ok, all_refer}
-use Rattle.soundness.specs.Costs.{places_in}
-use Rattle.soundness.proofs.Going.{tiled_cost}
-use Rattle.soundness.proofs.Stamping.{tiled_of}
 use Rattle.soundness.proofs.Twice.{all_both}
 
 -- one test that fails is enough
@@ -70,31 +66,3 @@ module _ (slots : ℕ) (row : List ℕ) where
       last true false = refl
       last false true = refl
       last false false = refl
-
--- where the free words begin within a row that was only looked at since
-pub walkable_of : (slots : ℕ) (row row1 row2 : List ℕ) (free : ℕ) → base slots ≤ length row → length row < addresses → row1 ≡ row → free ≡ free_of row1 → row2 ≡ row1 → free ≤ length row2 → Walkable slots row free
-walkable_of slots row row1 row2 free a b e q f l = record { fits = a; short = b; free_is = q ∙ ap free_of e; within = rw (f, e) at l }
-
--- a row whose objects have well-formed headers and end where the free words begin, and what they cost
-pub record Begun (slots : ℕ) (row : List ℕ) (free : ℕ) : Type 0 where
-  pub tiling : Tiling slots row free
-  pub clean : all_of (header_ok row) (layout slots row) ≡ true
-  pub cost : base slots + (2 * length (layout slots row) + places_in (layout slots row)) ≤ free
-
-pub begun : (slots : ℕ) (row : List ℕ) (free slots1 : ℕ) (row1 : List ℕ) → Walkable slots row free → slots1 ≡ slots → row1 ≡ row → true ≡ all_of (header_ok row1) (layout slots1 row1) && ends (layout slots1 row1) (base slots1) free → Begun slots row free
-begun slots row free slots1 row1 w e f h =
-    let p = and_parts (all_of (header_ok row) (layout slots row)) (ends (layout slots row) (base slots) free) (sym (rw (e, f) at h)) in
-    let t : Tiling slots row free = record { walkable = w; ends = p.1 } in
-    record { tiling = t; clean = p.0; cost = tiled_cost row (base slots) free (layout slots row) (tiled_of slots row free t) }
-
--- the same of a row that was only looked at
-pub begun_still : (slots : ℕ) (row : List ℕ) (free slots1 : ℕ) (row1 : List ℕ) → Begun slots row free → slots1 ≡ slots → row1 ≡ row → Begun slots1 row1 free
-begun_still slots row free slots1 row1 b e f = rw (e, f) b
-
-pub layout_still : (slots : ℕ) (row : List ℕ) (slots1 : ℕ) (row1 : List ℕ) → slots1 ≡ slots → row1 ≡ row → layout slots1 row1 ≡ layout slots row
-layout_still slots row slots1 row1 e f = cc
-
-pub references_still : (slots : ℕ) (row : List ℕ) (slots1 : ℕ) (row1 : List ℕ) → slots1 ≡ slots → row1 ≡ row → (b : Bool)
-    → b ≡ all_refer slots1 (layout slots1 row1) row1
-    → b ≡ all_refer slots (layout slots row) row
-references_still slots row slots1 row1 e f b h = rw (e, f) at h
