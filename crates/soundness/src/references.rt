@@ -106,7 +106,7 @@ fn are_references<W: Words>(
     ensures looks { Looks W.Words m.old m.new }
     ensures touches { TouchesAtMost (2 * count) W.Words m.old m.new }
 {
-    // Tried with `all`: what is_reference asks stays open, since nothing is known of words that such a closure has touched.
+    // Not with `all`: nothing is known of words that its closure has touched, and so not what is_reference asks.
     for i in 0..count {
         if !is_reference(m, free, from + i, mark) {
             return false;
