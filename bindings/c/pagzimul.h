@@ -18,7 +18,8 @@
  * count - 64 - slots, to the last word.
  *
  * What is asked of the caller, and checked by nothing here:
- *   - `words` points to `count` words that nobody else reads or writes during a call (NULL is allowed with count 0);
+ *   - `words` points to `count` words that nobody else reads or writes during a call, and that may be written but for
+ *     pagzimul_fits (NULL is allowed with count 0);
  *   - every call but pagzimul_fits, pagzimul_start and pagzimul_is_sound is made on words for which pagzimul_start or
  *     pagzimul_is_sound answered true, with the same count and slots, and that only these calls have written since.
  * Every other number may be any number: one that is out of range is answered by its code. Slots are looked at from the
@@ -61,8 +62,9 @@ bool pagzimul_fits(const uint64_t *words, size_t count, uint64_t slots);
 bool pagzimul_start(uint64_t *words, size_t count, uint64_t slots);
 
 /* Do the words hold a sound heap with so many slots? Exact for any words whatever, damaged or never started, and it
- * changes none of them; more than 3,000,000,000 words are answered false. Calls may be made on words for which it says
- * true. It needs no memory of its own, so it takes time quadratic in the words in use. */
+ * needs no memory of its own: it writes to headers meanwhile, and when it answers every word is as it was, so it is not
+ * for words that may only be read. Calls may be made on words for which it says true. It takes time linear in the words
+ * in use: touches at most 3 words, 4 for each slot, and 9 for two words behind the slots. */
 bool pagzimul_is_sound(uint64_t *words, size_t count, uint64_t slots);
 
 /* The calls. calls: begin (scripts/print-calls) */

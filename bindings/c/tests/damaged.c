@@ -116,7 +116,7 @@ static void do_damage(const heap *g, random_state *random) {
     free(all.cell);
 }
 
-/* Does the check say what the one written here says, and write nothing? */
+/* Does the check say what the one written here says, and leave every word as it was? */
 static bool check(const heap *on) {
     size_t bytes = on->count * sizeof(uint64_t);
     uint64_t *before = test_memory(on->count, sizeof(uint64_t));
@@ -154,7 +154,7 @@ static bool play_damaged(const script *s, uint64_t number, random_state *random,
     do_damage(&on, random);
     bool sound = row_is_sound(on.words, on.count, on.slots);
     if (file != NULL) write_row(file, s, from, sound, &on);
-    if (!check(&on)) fail(s->path, sound ? "damaged, and expected sound" : "damaged, and expected unsound; or it was written");
+    if (!check(&on)) fail(s->path, sound ? "damaged, and expected sound" : "damaged, and expected unsound; or a word was changed");
     if (sound) play_calls(s, from, CALLS_AFTER, &on);
     if (sound && file != NULL) fprintf(file, "%" PRIu64 "\n", row_sum(on.words, on.count));
     if (!lent_is_guarded(&l)) fail(s->path, "damaged: it wrote outside of the words");
@@ -203,7 +203,7 @@ void test_never_started(plan plan) {
             fill(&l, &random, way);
             for (size_t i = 0; i < sizeof slots / sizeof slots[0]; i++) {
                 heap on = {l.words, count, slots[i]};
-                require(check(&on), "never started words: said to be sound, or written");
+                require(check(&on), "never started words: said to be sound, or changed");
                 require(!pagzimul_is_sound(l.words, count, slots[i]), "never started words are said to be sound");
             }
             require(lent_is_guarded(&l), "the check wrote outside of never started words");

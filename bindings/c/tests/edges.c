@@ -1,4 +1,4 @@
-/* What lies at the edges: NULL, fewest and most words, slots out of range. */
+/* What lies at the edges: NULL, fewest words and very many, slots out of range. */
 #define _DEFAULT_SOURCE
 #include "lent.h"
 #include "row.h"
@@ -76,27 +76,27 @@ static void test_fits(void) {
     }
 }
 
-/* The most words that is_sound looks at. They are only said to be there: no more than a few pages are touched. */
-static void test_most_words(void) {
+/* More words than 32 bits number. They are only said to be there: no more than a few pages are touched. */
+static void test_many_words(void) {
     enum { SLOTS = 3 };
-    const size_t most = 3000000000U;
-    size_t bytes = (most + 1) * sizeof(uint64_t);
+    const size_t many = 5000000000U;
+    size_t bytes = many * sizeof(uint64_t);
     void *block = mmap(NULL, bytes, PROT_READ | PROT_WRITE, MAP_PRIVATE | MAP_ANONYMOUS | MAP_NORESERVE, -1, 0);
     if (block == MAP_FAILED) {
-        puts("most words: skipped, so many cannot be mapped here");
+        puts("many words: skipped, so many cannot be mapped here");
         return;
     }
     uint64_t *words = block;
-    require(pagzimul_start(words, most + 1, SLOTS), "start says no to more than 3,000,000,000 words");
-    require(!pagzimul_is_sound(words, most + 1, SLOTS), "more than 3,000,000,000 words are said to be sound");
-    require(pagzimul_new(words, most + 1, SLOTS, 0, 1, 1).code == PAGZIMUL_DONE, "no object on so many words");
-    require(pagzimul_collect(words, most + 1, SLOTS).code == PAGZIMUL_DONE, "no collection on so many words");
-    require(pagzimul_is_sound(words, most, SLOTS), "3,000,000,000 words are said to be unsound");
+    require(pagzimul_start(words, many, SLOTS), "start says no to 5,000,000,000 words");
+    require(pagzimul_is_sound(words, many, SLOTS), "5,000,000,000 words are said to be unsound");
+    require(pagzimul_new(words, many, SLOTS, 0, 1, 1).code == PAGZIMUL_DONE, "no object on so many words");
+    require(pagzimul_collect(words, many, SLOTS).code == PAGZIMUL_DONE, "no collection on so many words");
+    require(pagzimul_is_sound(words, many, SLOTS), "an object on 5,000,000,000 words is said to be unsound");
     munmap(block, bytes);
 }
 
 void test_edges(void) {
     test_null();
     test_fits();
-    test_most_words();
+    test_many_words();
 }

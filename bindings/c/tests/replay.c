@@ -113,7 +113,7 @@ static void play_on(game *g, placing how, random_state *random, bool first) {
     if (pagzimul_fits(g->on.words, g->on.count, g->on.slots)) {
         if (!pagzimul_start(g->on.words, g->on.count, g->on.slots)) fail(s->path, "start refused enough words");
         for (size_t i = 0; i < s->count; i++) play_call(g, i, random, first);
-        if (s->words < SMALL && !pagzimul_is_sound(g->on.words, g->on.count, g->on.slots)) fail(s->path, "is said to be unsound");
+        if (!pagzimul_is_sound(g->on.words, g->on.count, g->on.slots)) fail(s->path, "is said to be unsound");
     } else {
         play_without_words(g);
     }

@@ -72,7 +72,7 @@ impl fmt::Display for TooFewWords {
 
 impl Error for TooFewWords {}
 
-/// The words hold no sound heap with so many slots, or there are more than 3,000,000,000 of them.
+/// The words hold no sound heap with so many slots.
 #[derive(Clone, Copy, Debug, PartialEq, Eq, Hash)]
 pub struct NotSound;
 

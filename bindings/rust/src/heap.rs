@@ -36,7 +36,7 @@ impl<'a> Heap<'a> {
     }
 
     /// The heap that already stands in these words. It is checked first, exactly and for any words, damaged or never
-    /// started; none of them is changed. The check takes time quadratic in the words in use.
+    /// started; it writes to headers meanwhile, and then every word is as it was. It takes time linear in the words in use.
     pub fn resume(words: &'a mut [u64], slots: u16) -> Result<Heap<'a>, NotSound> {
         // SAFETY: Lent. The function may be called on any words.
         if unsafe { ffi::pagzimul_is_sound(words.as_mut_ptr(), words.len(), slots.into()) } {

@@ -10,7 +10,12 @@ none = record { calls = 0; total = 0; worst = 0 }
 
 -- one call more, which touched so many words
 abbrev pub and_one : Tally → ℕ → Tally
-and_one t n = record { calls = min (t.calls + 1) (2 ^ 64 - 1); total = min (t.total + n) (2 ^ 64 - 1); worst = max t.worst n }
+and_one t n =
+    record {
+      calls = min (t.calls + 1) (2 ^ 64 - 1);
+      total = min (t.total + n) (2 ^ 64 - 1);
+      worst = max t.worst n;
+    }
 
 -- and of a script's calls, those of one name
 abbrev pub of_kind : List ℕ → Tally → List Ask → List ℕ → Tally

@@ -3,8 +3,8 @@ ghost use Rattle.std.specs.Prelude.{◌≡◌, [], Some};
 ghost use Rattle.mutator.specs.Table.{call_at, calls, name};
 ghost use Rattle.bench.specs.Kinds.{IsAt};
 
-use std::fmt;
 use mutator::{Ask, Numbers};
+use std::fmt;
 
 // By its name in the table of calls.
 #[derive(Clone, Copy)]

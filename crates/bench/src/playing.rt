@@ -8,8 +8,8 @@ ghost use Rattle.bench.specs.Touches.{Bounded};
 
 use driver::lent_words;
 use heap::{play, play_as};
-use std::alloc::{AllocError, Global};
 use mutator::{Ask, Told};
+use std::alloc::{AllocError, Global};
 
 // A script, and how many words and slots it is played on.
 #[derive(Clone, Copy)]
@@ -22,7 +22,8 @@ pub struct Game<'a> {
 impl Game<'_> {
     // What the calls are answered.
     pub fn answers(&self, heap: Global) -> Result<Vec<Told>, AllocError>
-        ensures { IfOk result (λ told. map answer_of told.items ≡ answers (room self.now.words self.now.slots) (blank self.now.slots) self.now.calls.now) }
+        ensures { IfOk result (λ told. let cap = room self.now.words self.now.slots in
+            map answer_of told.items ≡ answers cap (blank self.now.slots) self.now.calls.now) }
     {
         let mut words = lent_words(heap, self.words)?;
         let mut told = vec![in heap; Told { code: 0, val: 0 }; self.calls.len()]?;
@@ -37,7 +38,8 @@ impl Game<'_> {
 
     // The words touched in each call; none where there are too few to start.
     pub fn touches(&self, heap: Global) -> Result<Vec<u64>, AllocError>
-        ensures { IfOk result (λ t. (vec_len t ≡ length self.now.calls.now) × Bounded self.now.words t.items) }
+        ensures { IfOk result (λ t.
+            (vec_len t ≡ length self.now.calls.now) × Bounded self.now.words t.items) }
     {
         let mut words = lent_words(heap, self.words)?;
         let mut touches = vec![in heap; 0u64; self.calls.len()]?;

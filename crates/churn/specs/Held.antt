@@ -25,4 +25,5 @@ abbrev pub object_of : ℕ → ℕ → List Ask
 object_of more count = New MADE (more + 1) count ∷ Set MADE 0 ROW ∷ turns more ++ Copy ROW MADE ∷ []
 
 abbrev pub held_calls : Mostly → ℕ → List Ask
-held_calls mostly weight = object_of (places_for mostly (weight - 3)) (weight - 3 - places_for mostly (weight - 3))
+held_calls mostly weight =
+    object_of (places_for mostly (weight - 3)) (weight - 3 - places_for mostly (weight - 3))

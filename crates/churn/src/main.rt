@@ -7,10 +7,10 @@ ghost use Rattle.churn.specs.Held.{held_calls, places_for};
 use anyhow::anyhow;
 use bench::{Game, Random, Tally};
 use driver::exit_code;
+use mutator::{Ask, Told};
 use std::alloc::AllocError;
 use std::process::ExitCode;
 use std::{fmt, io};
-use mutator::{Ask, Told};
 
 const WORDS: u64 = 4000;
 

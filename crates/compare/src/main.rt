@@ -6,13 +6,13 @@ ghost use Rattle.std.specs.Prelude.{◌≤◌, max};
 use anyhow::anyhow;
 use bench::{CallKind, Game, Random};
 use driver::exit_code;
+use mutator::{Ask, CALLS, Told};
+use reference::PlainWorld;
 use script::{AnswerText, CallText};
 use std::alloc::{AllocError, Global};
 use std::io::{BufWriter, Stdout, Write};
 use std::process::ExitCode;
 use std::{env, fmt, io};
-use mutator::{Ask, CALLS, Told};
-use reference::PlainWorld;
 use world::room_for;
 
 const SEED: u64 = 1;

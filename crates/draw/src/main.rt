@@ -6,13 +6,13 @@ ghost use Rattle.picture.specs.Played.{Shows};
 ghost use Rattle.draw.specs.Undrawn.{Undrawn};
 
 use driver::{Fault, Script, exit_code, lent_words, open_input, open_output, read_script};
+use mutator::Ask;
 use picture::{Moment, Picture, Spot, Unseen};
 use script::HeapSize;
 use std::alloc::Global;
 use std::io::{BufWriter, Stdout, Write};
 use std::process::ExitCode;
 use std::{env, fmt, io};
-use mutator::Ask;
 
 // Which heap is drawn: after how many calls, and whether after a collection, too. It is the title as well.
 #[derive(Clone, Copy)]
@@ -105,10 +105,10 @@ impl Wanted {
 
 // What is drawn.
 fn look(heap: Global, size: HeapSize, calls: &[Ask], collected: bool) -> Result<Vec<Spot>, Failure>
-    ensures { MatchResult result (λ v. Shows size.words size.slots calls.now collected v.items) (λ e. Undrawn size e) }
+    ensures { MatchResult result (λ v. Shows size.words size.slots calls.now collected v.items)
+        (λ e. Undrawn size e) }
 {
-    let mut words =
-        lent_words(heap, size.words).map_err(|_| Failure::Script(Fault::NoMemory(1)))?;
+    let mut words = lent_words(heap, size.words).map_err(|_| Failure::Script(Fault::NoMemory(1)))?;
     let moment = Moment {
         slots: size.slots,
         calls,

@@ -29,15 +29,20 @@ abbrev pub Answers : Memory → Ask → Memory → Result Told AllocError → Ty
 Answers m q m' r = MatchResult r (λ t. (answer_of t ≡ told_by m q) × (m' ≡ after m q)) (λ e. m' ≡ m)
 
 -- a call: its answer is printed; or memory failed, and all stays; or the answer could not be written
-abbrev pub PlaysCall : Memory → Ask → Option (List ℕ) → ℕ → Memory → Option (List ℕ) → Result (Unit {0}) Fault → Type 0
-PlaysCall m q out n m' out' r = MatchResult r (λ _. (m' ≡ after m q) × Appends out out' (line_for (told_by m q))) (λ f. ((f ≡ NoMemory n) × (m' ≡ m) × Keeps out out') ⊎ (Unprinted f × (m' ≡ after m q)))
+abbrev pub PlaysCall : Memory → Ask → Option (List ℕ) → ℕ → Memory → Option (List ℕ) →
+    Result (Unit {0}) Fault → Type 0
+PlaysCall m q out n m' out' r =
+    MatchResult r (λ _. (m' ≡ after m q) × Appends out out' (line_for (told_by m q)))
+    (λ f. ((f ≡ NoMemory n) × (m' ≡ m) × Keeps out out') ⊎ (Unprinted f × (m' ≡ after m q)))
 
 -- what a line says is played; one that is refused, or has no call, changes nothing
-abbrev pub PlaysSaid : Result (Option Ask) LineError → Memory → Option (List ℕ) → ℕ → Memory → Option (List ℕ) → Result (Unit {0}) Fault → Type 0
+abbrev pub PlaysSaid : Result (Option Ask) LineError → Memory → Option (List ℕ) → ℕ → Memory →
+    Option (List ℕ) → Result (Unit {0}) Fault → Type 0
 PlaysSaid (Err e) m out n m' out' r = (r ≡ Err (Line n e)) × (m' ≡ m) × Keeps out out'
 PlaysSaid (Ok None) m out n m' out' r = (r ≡ Ok tt) × (m' ≡ m) × Keeps out out'
 PlaysSaid (Ok (Some q)) m out n m' out' r = PlaysCall m q out n m' out' r
 
 -- the line with this number is played
-abbrev pub Plays : List ℕ → Memory → Option (List ℕ) → ℕ → Memory → Option (List ℕ) → Result (Unit {0}) Fault → Type 0
+abbrev pub Plays : List ℕ → Memory → Option (List ℕ) → ℕ → Memory → Option (List ℕ) →
+    Result (Unit {0}) Fault → Type 0
 Plays line m out n m' out' r = PlaysSaid (line_of line) m out n m' out' r

@@ -37,15 +37,21 @@ printed [] = []
 printed (a ∷ rest) = line_for a ++ printed rest
 
 -- as the script does, and the answers are printed, unless there was no memory for them or they could not be written
-abbrev pub Ends : Script → Result (Vec Told Global) AllocError → Option (List ℕ) → Option (List ℕ) → Result (Unit {0}) Fault → Type 0
+abbrev pub Ends : Script → Result (Vec Told Global) AllocError → Option (List ℕ) → Option (List ℕ) →
+    Result (Unit {0}) Fault → Type 0
 Ends s (Err e) out out' r = (r ≡ Err (NoMemory 1)) × Keeps out out'
-Ends s (Ok v) out out' r = ((r ≡ s.end) × Appends out out' (printed (answers_to s))) ⊎ MatchResult r (λ _. ⊥) Unprinted
+Ends s (Ok v) out out' r =
+    ((r ≡ s.end) × Appends out out' (printed (answers_to s))) ⊎ MatchResult r (λ _. ⊥) Unprinted
 
 -- a script was answered and its answers printed; or there was no memory for them, or they could not be written
-abbrev pub PlaysScript : Script → Option (List ℕ) → Option (List ℕ) → Result (Unit {0}) Fault → Type 0
-PlaysScript s out out' r = ((r ≡ s.end) × Appends out out' (printed (answers_to s))) ⊎ ((r ≡ Err (NoMemory 1)) × Keeps out out') ⊎ MatchResult r (λ _. ⊥) Unprinted
+abbrev pub PlaysScript : Script → Option (List ℕ) → Option (List ℕ) →
+    Result (Unit {0}) Fault → Type 0
+PlaysScript s out out' r =
+    ((r ≡ s.end) × Appends out out' (printed (answers_to s)))
+    ⊎ ((r ≡ Err (NoMemory 1)) × Keeps out out') ⊎ MatchResult r (λ _. ⊥) Unprinted
 
 -- what was read was played; where nothing could be, that is said
-abbrev pub PlaysRead : Result Script Fault → Option (List ℕ) → Option (List ℕ) → Result (Unit {0}) Fault → Type 0
+abbrev pub PlaysRead : Result Script Fault → Option (List ℕ) → Option (List ℕ) →
+    Result (Unit {0}) Fault → Type 0
 PlaysRead (Ok s) out out' r = PlaysScript s out out' r
 PlaysRead (Err f) out out' r = (r ≡ Err f) × Keeps out out'

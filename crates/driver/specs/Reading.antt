@@ -77,7 +77,8 @@ unopened (Ok _) = NoFirstLine
 unopened (Err f) = f
 
 -- what was read as a script; there is none if no line said how many words and slots there are
-abbrev pub script_of : Option HeapSize → Vec Ask Global → Result (Unit {0}) Fault → Result Script Fault
+abbrev pub script_of : Option HeapSize → Vec Ask Global → Result (Unit {0}) Fault →
+    Result Script Fault
 script_of None qs end = Err (unopened end)
 script_of (Some h) qs end = Ok (record { size = h; calls = qs; end = end })
 
@@ -103,10 +104,13 @@ all_lines bs = lines_up_to (length bs) bs
 
 -- where the input's bytes are known: these are its first lines, and all of them if nothing ended the reading before
 abbrev pub AreLinesOf : Option (List ℕ) → List (List ℕ) → Result (Unit {0}) Fault → Type 0
-AreLinesOf bytes lines r = IfSome bytes (λ bs. (lines ≡ take (length lines) (all_lines bs)) × IfOk r (λ _. lines ≡ all_lines bs))
+AreLinesOf bytes lines r =
+    IfSome bytes (λ bs. (lines ≡ take (length lines) (all_lines bs))
+    × IfOk r (λ _. lines ≡ all_lines bs))
 
 -- the lines of an input are taken, up to one that ends the reading; such a line counts before how the input ended
-pub record TakesInput (bytes : Option (List ℕ)) (s t : Said) (r : Result (Unit {0}) Fault) : Type 0 where
+pub record TakesInput
+    (bytes : Option (List ℕ)) (s t : Said) (r : Result (Unit {0}) Fault) : Type 0 where
   pub lines : List (List ℕ)
   pub end : Result (Unit {0}) Fault
   pub input : Result (Unit {0}) Fault
@@ -116,7 +120,8 @@ pub record TakesInput (bytes : Option (List ℕ)) (s t : Said) (r : Result (Unit
   pub are : AreLinesOf bytes lines r
 
 -- what the lines of an input come to; a line that ends the reading counts before how the input ended
-pub record Says (lines : List (List ℕ)) (input : Result (Unit {0}) Fault) (r : Result Script Fault) : Type 0 where
+pub record Says (lines : List (List ℕ)) (input : Result (Unit {0}) Fault)
+    (r : Result Script Fault) : Type 0 where
   pub read : Reading
   pub end : Result (Unit {0}) Fault
   pub takes : TakesAll nothing lines (so_far read) end

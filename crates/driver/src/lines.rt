@@ -14,7 +14,8 @@ pub fn play_line<M: Machine, W: Write>(
     number: usize,
     line: &str,
 ) -> Result<(), Fault>
-    ensures { Plays line.now (M.memory machine.old) (W.contents out.old) number (M.memory machine.new) (W.contents out.new) result }
+    ensures { let m = M.memory machine.old in let m' = M.memory machine.new in
+        Plays line.now m (W.contents out.old) number m' (W.contents out.new) result }
 {
     let Some(ask) = read_line(line).map_err(|why| Fault::Line(number, why))? else {
         return Ok(());

@@ -1,8 +1,8 @@
 // What answers the calls of a script.
 ghost use Rattle.driver.specs.Memories.{Memory, Answers};
 
-use std::alloc::AllocError;
 use mutator::{Ask, Told};
+use std::alloc::AllocError;
 
 // A memory with its slots.
 pub trait Machine {

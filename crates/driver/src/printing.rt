@@ -9,12 +9,12 @@ ghost use Rattle.driver.specs.Playing.{Answered, Ends, printed};
 
 use crate::fault::Fault;
 use crate::reading::Script;
+use mutator::Told;
 use script::AnswerText;
 use std::alloc::AllocError;
 use std::io::{BufWriter, Stdout, Write};
 use std::process::ExitCode;
 use std::{fmt, io};
-use mutator::Told;
 
 // Standard output, to be written in large pieces.
 pub fn open_output(rt: &HostRuntime) -> Result<BufWriter<Stdout>, Fault>
@@ -25,7 +25,8 @@ pub fn open_output(rt: &HostRuntime) -> Result<BufWriter<Stdout>, Fault>
 
 // The answers, a line each.
 fn print<W: Write>(out: &mut W, told: &[Told]) -> io::Result<()>
-    ensures { IfOk result (λ _. Appends (W.contents out.old) (W.contents out.new) (printed (map answer_of told.now))) }
+    ensures { IfOk result (λ _. let lines = printed (map answer_of told.now) in
+        Appends (W.contents out.old) (W.contents out.new) lines) }
 {
     for told in told {
         let text = AnswerText(*told);

@@ -4,10 +4,10 @@ ghost use Rattle.driver.specs.declared.fault.Fault.TheVariants.{NoMemory};
 ghost use Rattle.driver.specs.Reading.{so_far, Takes, TakesInput, nothing, script_of, SaidBy};
 
 use crate::fault::Fault;
+use mutator::Ask;
 use script::{HeapSize, read_line, read_opening};
 use std::alloc::Global;
 use std::io::{BufRead, BufReader, Stdin};
-use mutator::Ask;
 
 // What was read of a script: its first line, the calls of the lines that were taken, and how that ended.
 #[derive(Drop)]

@@ -1,5 +1,5 @@
 -- A script, answer by answer.
-use Rattle.std.proofs.Common.{◌≡◌, ℕ, ◌+◌, ◌*◌, ◌<◌, ◌≤◌, Bool, true, false, List, [], ◌∷◌, ◌++◌, map, length, take, drop, set, sym, refl, ap, ◌∙◌, subst, ap₂, arith, drop-set-lt}
+use Rattle.std.proofs.Common.{◌≡◌, ℕ, ◌+◌, ◌*◌, ◌<◌, ◌≤◌, Bool, true, false, List, [], ◌∷◌, ◌++◌, map, length, take, set, sym, refl, ap, ◌∙◌, subst, ap₂, arith, drop-set-lt}
 use Rattle.std.proofs.lemmas.List.{length-append, take_more_set}
 use Rattle.mutator.specs.declared.Ask.{Ask}
 use Rattle.mutator.specs.declared.Told.{Told}
@@ -15,7 +15,7 @@ use Rattle.mutator.proofs.Roomless.{answered as answered_roomless}
 use Rattle.mutator.proofs.Calls.{agree}
 use Rattle.world.proofs.Equivalence.{alike_self, alike_through}
 use Rattle.world.proofs.Changes.{blank_valid}
-use Rattle.layout.specs.Cells.{base, world_of}
+use Rattle.layout.specs.Cells.{base}
 use Rattle.layout.proofs.Worlds.{valid_of}
 use Rattle.store.specs.Ready.{Ready}
 use Rattle.heap.specs.Says.{Does, Calls, PlaySays}

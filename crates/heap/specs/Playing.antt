@@ -24,7 +24,9 @@ standing false slots row = blank slots
 pub record Turns (ready : Bool) (q : Ask) (slots : ℕ) (row row' : List ℕ) (t : Turn) : Type 0 where
   pub stands : Stands ready slots row'
   pub long : length row' ≡ length row
-  pub does : Does (room (length row) slots) q (standing ready slots row) (standing ready slots row') (answer_of t.told)
+  pub does :
+      Does (room (length row) slots) q (standing ready slots row) (standing ready slots row')
+      (answer_of t.told)
   pub touched : t.touched ≤ 9 * length row + 6
 
 abbrev pub world_after : ℕ → World → List Ask → World
@@ -46,18 +48,22 @@ Given g (t ∷ ts) [] = ⊥
 Given g (t ∷ ts) (x ∷ xs) = g t x × Given g ts xs
 
 -- calls one after the other: what is kept of each stands in the place of each, and from n on all stays
-pub record Played {X : Type 0} (gives : Turn → X → Type 0) (n : ℕ) (ready : Bool) (qs : List Ask) (slots : ℕ) (row row' : List ℕ) (o o' : List X) : Type 0 where
+pub record Played {X : Type 0} (gives : Turn → X → Type 0) (n : ℕ) (ready : Bool) (qs : List Ask)
+    (slots : ℕ) (row row' : List ℕ) (o o' : List X) : Type 0 where
   pub turns : List Turn
   pub stands : Stands ready slots row'
   pub long : length row' ≡ length row
-  pub alike : Alike (world_after (room (length row) slots) (standing ready slots row) qs) (standing ready slots row')
+  pub alike :
+      Alike (world_after (room (length row) slots) (standing ready slots row) qs)
+      (standing ready slots row')
   pub told : answered turns ≡ answers (room (length row) slots) (standing ready slots row) qs
   pub bounded : Bounded (length row) turns
   pub given : Given gives turns (take (length qs) o')
   pub rest : drop n o' ≡ drop n o
 
 -- a whole script on n words whatever stood in them
-pub record PlaysAs {X : Type 0} (gives : Turn → X → Type 0) (n slots : ℕ) (qs : List Ask) (o o' : List X) : Type 0 where
+pub record PlaysAs {X : Type 0} (gives : Turn → X → Type 0)
+    (n slots : ℕ) (qs : List Ask) (o o' : List X) : Type 0 where
   pub turns : List Turn
   pub told : answered turns ≡ answers (room n slots) (blank slots) qs
   pub bounded : Bounded n turns

@@ -73,7 +73,8 @@ impl From<Turn> for u64 {
 fn take_turn(m: &mut Manager<Lent<'_>>, ready: bool, q: &Ask) -> Turn
     requires { Stands ready m.old.slots m.old.words.words.now }
     ensures slots { m.new.slots ≡ m.old.slots }
-    ensures turns { Turns ready q.now m.old.slots m.old.words.words.now m.new.words.words.now result }
+    ensures turns { let row = m.old.words.words.now in let row' = m.new.words.words.now in
+        Turns ready q.now m.old.slots row row' result }
 {
     m.words.count = 0;
     if ready {
@@ -92,11 +93,18 @@ fn take_turn(m: &mut Manager<Lent<'_>>, ready: bool, q: &Ask) -> Turn
 // The one loop that plays a script. Of each turn that is kept which `T` is made of it: the answer, or the touches. An answer
 // goes to the place that `enumerate` says: zipped with `iter_mut` (tried), an invariant has no name for the elements that
 // are done.
-pub fn play_on<T: From<Turn> + Copy>(script: &[Ask], m: &mut Manager<Lent<'_>>, ready: bool, out: &mut [T])
+pub fn play_on<T: From<Turn> + Copy>(
+    script: &[Ask],
+    m: &mut Manager<Lent<'_>>,
+    ready: bool,
+    out: &mut [T],
+)
     requires room { length script.now ≤ length out.old }
     requires stands { Stands ready m.old.slots m.old.words.words.now }
     ensures slots { m.new.slots ≡ m.old.slots }
-    ensures played { Played T.from_gives (length script.now) ready script.now m.old.slots m.old.words.words.now m.new.words.words.now out.old out.new }
+    ensures played { let row = m.old.words.words.now in let row' = m.new.words.words.now in
+        let qs = script.now in
+        Played T.from_gives (length qs) ready qs m.old.slots row row' out.old out.new }
 {
     for (i, q) in script.iter().enumerate() {
         out[i] = T::from(take_turn(m, ready, q));

@@ -27,7 +27,8 @@ impl Row {
     // below: each changes the row it is called on.
     fn object(&mut self, places: u16, words: u16) -> Result<usize, AllocError>
         ensures lies { IfOk result (λ at. at ≡ vec_len self.old.words) }
-        ensures grown { IfOk result (λ _. Grown places words self.old.words.items self.new.words.items) }
+        ensures grown { IfOk result (λ _.
+            Grown places words self.old.words.items self.new.words.items) }
         ensures slots { self.new.slots ≡ self.old.slots }
     {
         let at = self.words.len();
@@ -51,7 +52,8 @@ impl Row {
 
     // A place of an object leads to another.
     fn place(&mut self, at: usize, place: usize, to: usize)
-        ensures leads { Leads (((at + 2) % 2 ^ 64 + place) % 2 ^ 64) to self.old.words.items self.new.words.items }
+        ensures leads { let cell = ((at + 2) % 2 ^ 64 + place) % 2 ^ 64 in
+            Leads cell to self.old.words.items self.new.words.items }
         ensures slots { self.new.slots ≡ self.old.slots }
     {
         self.lead(at.wrapping_add(2).wrapping_add(place), to);
@@ -70,7 +72,8 @@ impl Row {
 
 // Objects of one place, each of which leads to the next.
 pub fn chain(heap: Global, count: usize) -> Result<Row, AllocError>
-    ensures { IfOk result (λ row. 0 < count → count < 2 ^ 32 → IsChain count row.slots row.words.items) }
+    ensures { IfOk result (λ row.
+        0 < count → count < 2 ^ 32 → IsChain count row.slots row.words.items) }
 {
     let mut row = Row::new(heap, 1)?;
     let first = row.object(1, 0)?;
@@ -101,7 +104,8 @@ pub fn fan(heap: Global) -> Result<Row, AllocError>
 
 // A full binary tree of objects with two places; object i leads to objects 2i + 1 and 2i + 2.
 pub fn tree(heap: Global, count: usize) -> Result<Row, AllocError>
-    ensures { IfOk result (λ row. 0 < count → count < 2 ^ 32 → IsTree count row.slots row.words.items) }
+    ensures { IfOk result (λ row.
+        0 < count → count < 2 ^ 32 → IsTree count row.slots row.words.items) }
 {
     let mut row = Row::new(heap, 1)?;
     let first = row.object(2, 0)?;

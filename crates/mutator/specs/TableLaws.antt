@@ -40,4 +40,5 @@ roomless n q = cond (all_there n (numbers q)) (said (entry q).empty) (told 2 0)
 -- every call of a script is in the table; and without room it is answered as the table says, and nothing changes
 pub record TableHolds : Type 0 where
   pub found : (q : Ask) → Found q
-  pub roomless : (n : ℕ) (q : Ask) → answer 0 (blank n) q ≡ record { told = roomless n q; after = blank n }
+  pub roomless : (n : ℕ) (q : Ask) →
+      answer 0 (blank n) q ≡ record { told = roomless n q; after = blank n }

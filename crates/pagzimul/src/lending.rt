@@ -1,5 +1,5 @@
 // Whether words can be a heap, are one, and how they become one. Nothing is asked of the words or the numbers.
-ghost use Rattle.std.specs.Prelude.{◌≡◌, ℕ, ◌+◌, ◌<◌, ◌≤◌, true, false, ◌&&◌, length, nat_le};
+ghost use Rattle.std.specs.Prelude.{◌≡◌, ℕ, ◌+◌, ◌<◌, ◌≤◌, true, false, ◌&&◌, length};
 ghost use Rattle.std.specs.Fn.{FnOnceReturnsAtMut, FnOnceTakesAtMut};
 ghost use Rattle.world.specs.World.{blank};
 ghost use Rattle.layout.specs.Cells.{world_of};
@@ -9,9 +9,6 @@ ghost use Rattle.pagzimul.specs.Lent.{managed, startable, Usable};
 use soundness::is_sound;
 use store::{ADDRESSES, Manager, OWN, start};
 use words::lent::Lent;
-
-// What is_sound touches is counted in 63 bits, and is at most the square of one more than this.
-const CHECKED: usize = 3_000_000_000;
 
 // Are there enough words for so many slots? Slots are numbered below 65,536.
 #[unsafe(no_mangle)]
@@ -86,19 +83,18 @@ pub extern "C" fn pagzimul_start(words: &mut [u64], slots: u64) -> bool
     true
 }
 
-// Do the words hold a sound heap with so many slots? They stay as they are.
+// Do the words hold a sound heap with so many slots? They are written to meanwhile, and are then as they were.
 #[unsafe(no_mangle)]
 pub extern "C" fn pagzimul_is_sound(words: &mut [u64], slots: u64) -> bool
-    ensures value { let count = length words.old in
-        result ≡ (nat_le count 3000000000 && (startable count slots && sound slots words.old)) }
+    ensures value { result ≡ (startable (length words.old) slots && sound slots words.old) }
     ensures usable { result ≡ true → Usable slots words.new }
     ensures same { words.new ≡ words.old }
 {
-    if words.len() > CHECKED || !pagzimul_fits(words, slots) {
+    if !pagzimul_fits(words, slots) {
         return false;
     }
-    let count = words.len() as u64;
-    with_manager(words, slots, |m| is_sound(m))
-        .0
-        .within(count * (1 + count))
+    // for two words behind the slots nine, as many as an object takes that holds nothing
+    let behind = words.len() as u64 - (OWN as u64 + slots);
+    let most = 3 + (4 * slots + 9 * behind / 2);
+    with_manager(words, slots, |m| is_sound(m)).0.within(most)
 }

@@ -31,8 +31,17 @@ away_of Upper at = point (middle_of Upper at).x ((middle_of Upper at).y - BEND)
 away_of Lower at = point (middle_of Lower at).x ((middle_of Lower at).y + BEND)
 
 abbrev pub curve : Edge → Addr → Edge → Addr → Arrow
-curve leaves from comes to = record { from = middle_of leaves from; leaving = away_of leaves from; coming = away_of comes to; to = middle_of comes to }
+curve leaves from comes to =
+    record {
+      from = middle_of leaves from;
+      leaving = away_of leaves from;
+      coming = away_of comes to;
+      to = middle_of comes to;
+    }
 
 -- down, up, or over the boxes of a line
 abbrev pub arrow_of : Addr → Addr → Arrow
-arrow_of from to = if nat_lt (line_of from) (line_of to) then curve Lower from Upper to else (if nat_lt (line_of to) (line_of from) then curve Upper from Lower to else curve Upper from Upper to)
+arrow_of from to =
+    if nat_lt (line_of from) (line_of to) then curve Lower from Upper to
+    else (if nat_lt (line_of to) (line_of from) then curve Upper from Lower to
+    else curve Upper from Upper to)

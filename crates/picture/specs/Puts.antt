@@ -10,7 +10,8 @@ use Rattle.picture.specs.declared.spot.Spot.{Spot}
 use Rattle.picture.specs.Spots.{cell_of}
 
 -- these are put, and at most so many words touched
-pub record Puts {W : Type 0} (w : Ghosts W) (n : ℕ) (these old new : List Spot) (m m' : Manager W) : Type 0 where
+pub record Puts {W : Type 0} (w : Ghosts W)
+    (n : ℕ) (these old new : List Spot) (m m' : Manager W) : Type 0 where
   pub spots : new ≡ old ++ these
   pub looks : Looks w m m'
   pub touches : TouchesAtMost n w m m'

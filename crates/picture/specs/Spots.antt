@@ -28,7 +28,10 @@ abbrev pub word_of : Bool → ℕ → Spot
 word_of live word = spot_of live (Word word)
 
 abbrev pub cell_of : Bool → List ℕ → Cell → List Spot
-cell_of live row c = spot_of live Header ∷ spot_of live Second ∷ map (place_of live) (seg row (c.start + 2) c.places) ++ map (word_of live) (seg row (c.start + 2 + c.places) c.count)
+cell_of live row c =
+    spot_of live Header ∷ spot_of live Second
+    ∷ map (place_of live) (seg row (c.start + 2) c.places)
+    ++ map (word_of live) (seg row (c.start + 2 + c.places) c.count)
 
 -- the objects, where so many come before, and those with these numbers are reached
 abbrev pub objects_of : ℕ → List ℕ → List ℕ → List Cell → List Spot
@@ -40,4 +43,6 @@ free_words row = replicate (length row - free_of row) Free
 
 -- the slots, the objects in order, and the free words
 abbrev pub spots : ℕ → List ℕ → List Spot
-spots slots row = slots_of slots row ++ objects_of 0 (reached (world_of slots row)) row (layout slots row) ++ free_words row
+spots slots row =
+    slots_of slots row ++ objects_of 0 (reached (world_of slots row)) row (layout slots row)
+    ++ free_words row

@@ -55,17 +55,25 @@ short_text n = if nat_lt n 1000000 then decimal n else codes "..."
 
 -- a box, and the number in it
 abbrev pub rect_text : List ℕ → Addr → List ℕ
-rect_text class at = codes "<rect class='" ++ class ++ codes "' x='" ++ decimal (corner_of at).x ++ codes "' y='" ++ decimal (corner_of at).y ++ codes "'" ++ codes " width='" ++ decimal WIDTH ++ codes "' height='" ++ decimal HEIGHT ++ codes "'/>"
+rect_text class at =
+    codes "<rect class='" ++ class ++ codes "' x='" ++ decimal (corner_of at).x
+    ++ codes "' y='" ++ decimal (corner_of at).y ++ codes "'"
+    ++ codes " width='" ++ decimal WIDTH ++ codes "' height='" ++ decimal HEIGHT ++ codes "'/>"
 
 abbrev pub label_text : ℕ → Addr → List ℕ
-label_text n at = codes "<text x='" ++ decimal ((corner_of at).x + WIDTH / 2) ++ codes "' y='" ++ decimal ((corner_of at).y + BASE) ++ codes "'>" ++ short_text n ++ codes "</text>"
+label_text n at =
+    codes "<text x='" ++ decimal ((corner_of at).x + WIDTH / 2)
+    ++ codes "' y='" ++ decimal ((corner_of at).y + BASE) ++ codes "'>"
+    ++ short_text n ++ codes "</text>"
 
 -- an arrow as the data of a path
 abbrev pub point_text : Point → List ℕ
 point_text p = decimal p.x ++ codes " " ++ decimal p.y
 
 abbrev pub curve_text : Arrow → List ℕ
-curve_text a = codes "M" ++ point_text a.from ++ codes "C" ++ point_text a.leaving ++ codes " " ++ point_text a.coming ++ codes " " ++ point_text a.to
+curve_text a =
+    codes "M" ++ point_text a.from ++ codes "C" ++ point_text a.leaving
+    ++ codes " " ++ point_text a.coming ++ codes " " ++ point_text a.to
 
 -- the counts of no word, and of one more
 abbrev pub none : Counts

@@ -55,7 +55,9 @@ impl Moment<'_> {
     // What stands at each word of lent words then, behind the manager's own.
     pub fn spots(&self, mem: &mut [u64], heap: Global) -> Result<Vec<Spot>, Unseen>
         requires { length mem.old < 72057594037927936 }
-        ensures { MatchResult result (λ v. Shows (length mem.old) self.now.slots self.now.calls.now self.now.collected v.items) (λ e. Unshown (length mem.old) self.now.slots e) }
+        ensures { let n = length mem.old in let at = self.now in
+            MatchResult result (λ v. Shows n at.slots at.calls.now at.collected v.items)
+            (λ e. Unshown n at.slots e) }
     {
         let mut m = Manager {
             words: Lent {

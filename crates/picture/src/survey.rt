@@ -29,7 +29,8 @@ pub(crate) fn survey<W: Words>(m: &mut Manager<W>, heap: Global) -> Result<Vec<S
 
 fn put_slots<W: Words>(spots: &mut Vec<Spot>, m: &mut Manager<W>) -> Result<(), AllocError>
     requires { IsOpenFor m.old.slots W.Words m.old }
-    ensures { IfOk result (λ _. Puts W.Words m.old.slots (slots_of m.old.slots (W.Words.row m.old.words)) spots.old.items spots.new.items m.old m.new) }
+    ensures { IfOk result (λ _. let these = slots_of m.old.slots (W.Words.row m.old.words) in
+        Puts W.Words m.old.slots these spots.old.items spots.new.items m.old m.new) }
 {
     for s in 0..m.slots {
         let held = m.slot(Slot(s as u64));
@@ -42,7 +43,9 @@ fn put_slots<W: Words>(spots: &mut Vec<Spot>, m: &mut Manager<W>) -> Result<(), 
 fn put_objects<W: Words>(spots: &mut Vec<Spot>, m: &mut Manager<W>) -> Result<(), AllocError>
     requires open { IsOpenFor (1 + length (W.Words.row m.old.words)) W.Words m.old }
     requires ends { Ends m.old.slots (W.Words.row m.old.words) }
-    ensures { IfOk result (λ _. Puts W.Words (1 + length (W.Words.row m.old.words)) (marked_objects (W.Words.row m.old.words) (layout m.old.slots (W.Words.row m.old.words))) spots.old.items spots.new.items m.old m.new) }
+    ensures { IfOk result (λ _. let row = W.Words.row m.old.words in
+        let these = marked_objects row (layout m.old.slots row) in
+        Puts W.Words (1 + length row) these spots.old.items spots.new.items m.old m.new) }
 {
     let end = m.free();
     let at = Addr(m.base());
@@ -118,7 +121,8 @@ fn put_words<W: Words>(
 
 fn put_free<W: Words>(spots: &mut Vec<Spot>, m: &mut Manager<W>) -> Result<(), AllocError>
     requires { IsOpenFor 1 W.Words m.old }
-    ensures { IfOk result (λ _. Puts W.Words 1 (free_words (W.Words.row m.old.words)) spots.old.items spots.new.items m.old m.new) }
+    ensures { IfOk result (λ _. let these = free_words (W.Words.row m.old.words) in
+        Puts W.Words 1 these spots.old.items spots.new.items m.old m.new) }
 {
     for _ in m.free()..m.limit() {
         spots.push(Spot::Free)?;

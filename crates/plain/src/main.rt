@@ -4,12 +4,12 @@
 ghost use Rattle.plain.specs.First.{Begins};
 
 use driver::{Fault, Machine, exit_code, open_input, open_output, play_line};
+use mutator::{Ask, Told};
+use reference::PlainWorld;
 use script::{HeapSize, read_opening};
 use std::alloc::{AllocError, Global};
 use std::io::{BufRead, BufWriter, Stdout, Write};
 use std::process::ExitCode;
-use mutator::{Ask, Told};
-use reference::PlainWorld;
 use world::room_for;
 
 #[derive(Drop)]

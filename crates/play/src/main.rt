@@ -7,10 +7,10 @@ ghost use Rattle.driver.specs.Reading.{SaidBy};
 use driver::{
     Fault, Script, exit_code, lent_words, open_input, open_output, print_answers, read_script,
 };
+use mutator::Told;
 use std::alloc::{AllocError, Global};
 use std::io::{BufRead, Write};
 use std::process::ExitCode;
-use mutator::Told;
 
 fn answer(heap: Global, script: &Script) -> Result<Vec<Told>, AllocError>
     ensures { Answered script.now result }
@@ -34,7 +34,8 @@ fn play_script<R: BufRead + Drop, W: Write>(
     input: R,
     out: &mut W,
 ) -> Result<(), Fault>
-    ensures { (r : _) × SaidBy (R.remaining input) r × PlaysRead r (W.contents out.old) (W.contents out.new) result }
+    ensures { (r : _) × SaidBy (R.remaining input) r
+        × PlaysRead r (W.contents out.old) (W.contents out.new) result }
 {
     let script = read_script(heap, input)?;
     let told = answer(heap, &script);

@@ -1,5 +1,5 @@
 -- The table gone over for a name, place by place.
-use Rattle.std.proofs.Common.{◌≡◌, ℕ, zero, suc, ◌+◌, ◌≤◌, Bool, true, false, cond, List, [], ◌∷◌, drop, length, Some, None, Option, Ok, Err, Result, sym, refl, ap, ◌∙◌, subst, add-one, arith}
+use Rattle.std.proofs.Common.{◌≡◌, ℕ, zero, suc, ◌+◌, ◌≤◌, true, false, List, [], ◌∷◌, drop, length, Some, None, Option, Ok, Err, Result, sym, refl, ap, ◌∙◌, add-one, arith}
 use Rattle.std.specs.Str.{bytes_eq}
 use Rattle.std.specs.Option.{ok_or}
 use Rattle.mutator.specs.declared.Ask.{Ask}
@@ -68,5 +68,5 @@ past [] p l = refl
 past (f ∷ fs) zero l = absurd (omega arith)
 past (f ∷ fs) (suc p) l = past fs p (omega arith)
 
-pub called_past : (n : List ℕ) (p : ℕ) (ts : List (List ℕ)) → Passed n p → 10 ≤ p → Err UnknownCall ≡ called n ts
-called_past n p ts h l = called_none n p ts h (past calls p (omega arith))
+pub called_past : (n : List ℕ) (p : ℕ) (ts : List (List ℕ)) → Passed n p → length calls ≤ p → Err UnknownCall ≡ called n ts
+called_past n p ts h l = called_none n p ts h (past calls p l)

@@ -1,5 +1,5 @@
 -- A line is read as a call just if it spells that call.
-use Rattle.std.proofs.Common.{◌≡◌, ℕ, suc, ◌-◌, ◌^◌, ◌<◌, ◌≤◌, Bool, true, false, cond, leb, List, [], ◌∷◌, ◌++◌, map, length, Some, None, Option, Ok, Err, Result, sym, refl, ap, ap₂, ◌∙◌, subst, append_assoc, append-nil, arith}
+use Rattle.std.proofs.Common.{◌≡◌, ℕ, suc, ◌-◌, ◌^◌, ◌<◌, ◌≤◌, Bool, true, false, leb, List, [], ◌∷◌, ◌++◌, map, length, Some, None, Option, Ok, Err, Result, sym, refl, ap, ap₂, ◌∙◌, subst, append_assoc, append-nil, arith}
 use lib.ListN.{length-map}
 use Rattle.std.specs.Str.{all_ascii_digits, bytes_eq}
 use Rattle.std.proofs.lemmas.Slice.Eq.{bytes_eq-Decides}
@@ -15,8 +15,8 @@ use Rattle.script.specs.declared.error.LineError.TheVariants.{UnknownCall, TooFe
 use Rattle.script.specs.declared.read.HeapSize.{HeapSize}
 use Rattle.script.specs.Tokens.{tokens}
 use Rattle.script.specs.Numbers.{value as written, number}
-use Rattle.script.specs.Reading.{bind, next, ended, reads, made_of, called, reading, body, heap_size, sized, heap_size_of}
-use Rattle.script.specs.Spelling.{WriteAll, AllWithin, Fits, Spells, SpellsSize, ReadsWhatIsSpelt, ReadsSizeThatIsSpelt}
+use Rattle.script.specs.Reading.{bind, next, ended, reads, made_of, called, reading, body, heap_size, sized}
+use Rattle.script.specs.Spelling.{WriteAll, AllWithin, Fits, Spells, ReadsWhatIsSpelt, ReadsSizeThatIsSpelt}
 
 -- one number
 number_at : (m n : ℕ) (e : LineError) (t : List ℕ) (d s : Bool) → all_ascii_digits t ≡ d → leb (written t) m ≡ s → number m e t ≡ Ok n → (all_ascii_digits t ≡ true) × (written t ≡ n) × (n ≤ m)

@@ -13,4 +13,6 @@ value ds = value_after 0 ds
 
 -- the number that a token writes, if it is at most `most`
 abbrev pub number : ℕ → LineError → List ℕ → Result ℕ LineError
-number most over t = cond (all_ascii_digits t) (cond (nat_le (value t) most) (Ok (value t)) (Err over)) (Err NotANumber)
+number most over t =
+    cond (all_ascii_digits t) (cond (nat_le (value t) most) (Ok (value t)) (Err over))
+    (Err NotANumber)

@@ -35,7 +35,8 @@ reads front [] ts = bind (ended ts) (λ u. Ok front)
 reads front (k ∷ ks) ts = bind (next_like k ts) (λ p. reads (front ++ p.0 ∷ []) ks p.1)
 
 -- a function's result that has what is left of the line beside what was read, with the tokens of that
-abbrev pub seen : {A : Type 0} → Result (A × Bor (List ℕ)) LineError → Result (A × List (List ℕ)) LineError
+abbrev pub seen : {A : Type 0} →
+    Result (A × Bor (List ℕ)) LineError → Result (A × List (List ℕ)) LineError
 seen r = bind r (λ p. Ok (p.0, tokens p.1.now))
 
 -- the call with this name, of the numbers in these tokens
@@ -68,7 +69,10 @@ heap_size n r = record { words = n; slots = r }
 
 -- fewer words than there are addresses, and fewer slots than 65,536
 abbrev pub sized : List (List ℕ) → Result HeapSize LineError
-sized ts = bind (next (2 ^ 56 - 1) WordsTooLarge ts) (λ p. bind (next 65535 (NumberTooLarge 65535) p.1) (λ q. bind (ended q.1) (λ u. Ok (heap_size p.0 q.0))))
+sized ts =
+    bind (next (2 ^ 56 - 1) WordsTooLarge ts) (λ p.
+    bind (next 65535 (NumberTooLarge 65535) p.1) (λ q.
+    bind (ended q.1) (λ u. Ok (heap_size p.0 q.0))))
 
 abbrev pub heap_size_of : List ℕ → Result HeapSize LineError
 heap_size_of line = sized (tokens (body line))

@@ -35,7 +35,9 @@ pub record Spells (line : List ℕ) (q : Ask) : Type 0 where
 
 -- a line is read as the call that it spells, and refused if it spells none
 abbrev pub ReadsWhatIsSpelt : Type 0
-ReadsWhatIsSpelt = (line : List ℕ) (q : Ask) → (call_of line ≡ Ok q → Spells line q) × (Spells line q → call_of line ≡ Ok q)
+ReadsWhatIsSpelt =
+    (line : List ℕ) (q : Ask) →
+    (call_of line ≡ Ok q → Spells line q) × (Spells line q → call_of line ≡ Ok q)
 
 -- what is printed of a call is read as that call
 abbrev pub ReadsBack : Type 0
@@ -43,7 +45,10 @@ ReadsBack = (q : Ask) → Fits q → call_of (call_text q) ≡ Ok q
 
 -- the same of the first line: its tokens are the number of words and the number of slots
 abbrev pub SpellsSize : List ℕ → HeapSize → Type 0
-SpellsSize line h = WriteAll (tokens (body line)) (h.words ∷ h.slots ∷ []) × (h.words < 2 ^ 56) × (h.slots < 65536)
+SpellsSize line h =
+    WriteAll (tokens (body line)) (h.words ∷ h.slots ∷ []) × (h.words < 2 ^ 56) × (h.slots < 65536)
 
 abbrev pub ReadsSizeThatIsSpelt : Type 0
-ReadsSizeThatIsSpelt = (line : List ℕ) (h : HeapSize) → (heap_size_of line ≡ Ok h → SpellsSize line h) × (SpellsSize line h → heap_size_of line ≡ Ok h)
+ReadsSizeThatIsSpelt =
+    (line : List ℕ) (h : HeapSize) →
+    (heap_size_of line ≡ Ok h → SpellsSize line h) × (SpellsSize line h → heap_size_of line ≡ Ok h)

@@ -28,7 +28,9 @@ fn body(line: &str) -> &str
 
 // The first token of a line and what follows it, unless the line is blank or a comment.
 fn first_token(line: &str) -> Option<(&str, &str)>
-    ensures { MatchOption result (passed_over line.now ≡ true) (λ p. (passed_over line.now ≡ false) × (tokens (body_of line.now) ≡ p.0.now ∷ tokens p.1.now)) }
+    ensures { MatchOption result (passed_over line.now ≡ true)
+        (λ p. (passed_over line.now ≡ false)
+        × (tokens (body_of line.now) ≡ p.0.now ∷ tokens p.1.now)) }
 {
     if line.starts_with('#') {
         return None;

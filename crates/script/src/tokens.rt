@@ -6,7 +6,8 @@ const BLANKS: [char; 2] = [' ', '\t'];
 
 // The first token and what follows it, unless the line is blank.
 pub fn split_token(line: &str) -> Option<(&str, &str)>
-    ensures { MatchOption result (tokens line.now ≡ []) (λ p. tokens line.now ≡ p.0.now ∷ tokens p.1.now) }
+    ensures { let ts = tokens line.now in
+        MatchOption result (ts ≡ []) (λ p. ts ≡ p.0.now ∷ tokens p.1.now) }
 {
     let line = line.trim_start_matches(BLANKS);
     if line.is_empty() {

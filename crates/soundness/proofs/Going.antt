@@ -1,32 +1,15 @@
--- A loop from object to object: what it has touched, and what it still has to find out.
-use Rattle.std.proofs.Common.{◌≡◌, ℕ, List, get_or, refl, ap, ◌∙◌, arith}
-use Rattle.words.specs.declared.Words.{Ghosts}
+-- A loop from object to object: the objects that are left, and what they cost.
+use Rattle.std.proofs.Common.{◌≡◌, ℕ, zero, suc, ◌+◌, ◌-◌, ◌*◌, ◌<◌, ◌≤◌, List, [], ◌∷◌, length, get_or, ap, ◌∙◌, inl, inr, arith}
 use Rattle.words.specs.declared.header.Header.{Header}
 use Rattle.words.specs.Header.{unpacked}
-use Rattle.words.specs.Kinds.{weight, weight_of}
-use Rattle.layout.specs.Cells.{cell, span, base, layout}
-use Rattle.layout.proofs.Rests.{rest, rest_layout}
-use Rattle.store.specs.declared.cursor.Objects.{Objects}
-use Rattle.store.specs.declared.manager.Manager.{Manager}
-use Rattle.store.specs.declared.objects.Object.{Object}
-use Rattle.store.specs.Cursor.{Passes}
-use Rattle.store.specs.Frame.{Looks, TouchesAtMost}
-use Rattle.store.proofs.Framing.{looked}
+use Rattle.words.specs.Kinds.{weight, references, place_count, word_count, place_count_of, word_count_of}
+use Rattle.std.proofs.lemmas.Bool.{lt-ltb, le-ltb, cases_lt}
+use Rattle.layout.specs.Map.{base, free_of}
+use Rattle.layout.specs.Cells.{Cell, cell, span, cells, layout}
+use Rattle.layout.proofs.Facts.{Tiled}
+use Rattle.layout.proofs.Rests.{rest, rest_layout, rest_step}
 use Rattle.soundness.specs.Walkable.{Walkable}
-
--- nothing is changed, and each step over two words or more touched one
-pub record Going {W : Type 0} (w : Ghosts W) (m m' : Manager W) (c : Objects) (free : ℕ) : Type 0 where
-  pub looks : Looks w m m'
-  pub end : c.end ≡ free
-  pub few : TouchesAtMost c.at.0 w m m'
-  pub most : TouchesAtMost free w m m'
-
--- the next header
-pub header_span : (row row' : List ℕ) (at : ℕ) (h : Header) (w : ℕ) → row' ≡ row → h ≡ unpacked (get_or row' at 0) → w ≡ weight h → w ≡ span (cell at (get_or row at 0))
-header_span row row' at h w e q f =
-    let r = ap (λ (x : List ℕ). get_or x at 0) e in
-    let p : weight h ≡ weight_of (get_or row at 0) = ap weight q ∙ ap weight_of r in
-    omega arith
+use Rattle.soundness.specs.Costs.{places_in}
 
 -- at first
 pub rest_first : (slots : ℕ) (row : List ℕ) (free at : ℕ) → Walkable slots row free → at ≡ base slots → rest row at free ≡ layout slots row
@@ -35,9 +18,46 @@ rest_first slots row free at k e =
     let f = k.free_is in
     cc
 
--- at first, and one step more
-pub going_none : {W : Type 0} {w : Ghosts W} {m : Manager W} (c : Objects) → Going w m m c c.end
-going_none c = record { looks = record { same = refl; frame = record { slots = refl; lender = refl } }; end = refl; few = omega arith; most = omega arith }
+-- the next header
+pub record Heads (row : List ℕ) (at : ℕ) (h : Header) : Type 0 where
+  pub whole : h ≡ unpacked (get_or row at 0)
+  pub places : references h ≡ place_count_of (get_or row at 0)
+  pub span : weight h ≡ span (cell at (get_or row at 0))
 
-pub going_more : {W : Type 0} {w : Ghosts W} {l m n : Manager W} {c c' : Objects} {o : Object} {free : ℕ} → Going w l m c free → Passes w c c' m n o → Going w l n c' free
-going_more k p = record { looks = looked p.looks k.looks; end = p.end ∙ k.end; few = omega arith; most = omega arith }
+pub heads : (row row' : List ℕ) (at : ℕ) (h : Header) → get_or row' at 0 ≡ get_or row at 0 → h ≡ unpacked (get_or row' at 0) → Heads row at h
+heads row row' at h e q =
+    let p : place_count h ≡ place_count_of (get_or row at 0) = ap place_count q ∙ ap place_count_of e in
+    let n : word_count h ≡ word_count_of (get_or row at 0) = ap word_count q ∙ ap word_count_of e in
+    record { whole = q ∙ ap unpacked e; places = p; span = omega arith }
+
+-- one object less is left
+pub fewer : (row : List ℕ) (at free w : ℕ) → at < free → w ≡ span (cell at (get_or row at 0)) → length (rest row at free) ≡ 1 + length (rest row (at + w) free)
+fewer row at free w l e =
+    let s = ap length (rest_step row at free l) in
+    let r = ap (λ (x : ℕ). length (rest row (at + x) free)) e in
+    omega arith
+
+pub fewer_places : (row : List ℕ) (at free w p : ℕ) → at < free → w ≡ span (cell at (get_or row at 0)) → p ≡ place_count_of (get_or row at 0) → places_in (rest row at free) ≡ p + places_in (rest row (at + w) free)
+fewer_places row at free w p l e q =
+    let s = ap places_in (rest_step row at free l) in
+    let r = ap (λ (x : ℕ). places_in (rest row (at + x) free)) e in
+    omega arith
+
+-- no more objects than words
+few_cells : (k : ℕ) (row : List ℕ) (at free : ℕ) → length (cells k row at free) ≤ free - at
+few_cells zero row at free = omega arith
+few_cells (suc k) row at free =
+    let c = cell at (get_or row at 0) in
+    elim (cases_lt at free) [
+      | inl l ↦ rw (lt-ltb at free l) (omega (arith, few_cells k row (at + span c) free))
+      | inr l ↦ rw (le-ltb at free l) (omega arith)
+    ]
+
+pub few_objects : (slots : ℕ) (row : List ℕ) → length (layout slots row) ≤ free_of row - base slots
+unfolding layout
+few_objects slots row = few_cells (length row) row (base slots) (free_of row)
+
+-- where objects end at the free words, what is before these has two words for each of them, and their places
+pub tiled_cost : (row : List ℕ) (at free : ℕ) (cs : List Cell) → Tiled row at free cs → at + (2 * length cs + places_in cs) ≤ free
+tiled_cost row at free [] t = omega (arith, t)
+tiled_cost row at free (c ∷ cs) t = omega (arith, tiled_cost row (at + span c) free cs t.3)

@@ -3,10 +3,10 @@
 
 use bench::{CallKind, Game, Tally};
 use driver::{Fault, Script, exit_code, open_input, open_output, read_script};
+use mutator::{Ask, CALLS};
 use std::io::{BufWriter, Stdout, Write};
 use std::process::ExitCode;
 use std::{env, fmt, io};
-use mutator::{Ask, CALLS};
 
 #[derive(Drop)]
 enum Failure {

@@ -81,7 +81,7 @@ fn damaged_words_are_as_in_c() {
 fn require_unsound(words: &mut [u64], slots: u16) {
     let before = words.to_vec();
     assert_eq!(Heap::resume(words, slots).err(), Some(NotSound));
-    assert_eq!(words, before, "the check of soundness wrote to the words");
+    assert_eq!(words, before, "the check of soundness left other words");
 }
 
 #[test]

@@ -6,9 +6,6 @@ use std::thread;
 
 const THREADS: usize = 2;
 
-// Of a larger heap the check of soundness, which is quadratic, takes too long.
-const SMALL: usize = 1000;
-
 #[derive(Default)]
 struct Tally {
     answers: [u64; CODES],
@@ -48,7 +45,7 @@ fn play(script: &Script, tally: &mut Tally) {
         }
         tally.answers[usize::from(got.code)] += 1;
     }
-    if script.words < SMALL && Heap::resume(heap.into_words(), script.slots).is_err() {
+    if Heap::resume(heap.into_words(), script.slots).is_err() {
         script.fail(usize::MAX, "resume refused what calls made");
     }
 }

@@ -1,124 +1,84 @@
 -- The tests in their order, each with what was touched so far.
-use Rattle.std.proofs.Common.{◌≡◌, ℕ, ◌+◌, ◌*◌, length, ap, ◌∙◌, arith}
-use Rattle.layout.specs.Cells.{free_of}
-use Rattle.store.proofs.Framing.{looked}
-use Rattle.soundness.proofs.Judging.{walkable_still}
-use Rattle.soundness.proofs.Verdicts.{unsound_0, unsound_2, unsound_3, unsound_4, ends_is, objects_are, references_are, sound_by_slots, ends_after, covers}
+use Rattle.std.proofs.Common.{length, ap, ◌∙◌, arith}
+use Rattle.layout.specs.Map.{free_of}
+use Rattle.store.proofs.Framing.{framed, looked}
+use Rattle.soundness.proofs.Verdicts.{unsound_0, unsound_2, unsound_3, sound_by}
+use Rattle.soundness.proofs.Stages.{begins, parses, marked, objects_still, refer_still}
 use Rattle.soundness.proofs.is_sound.Goals as goal
 
 pub returns-then-not-has_sentinels : goal.returns-then-not-has_sentinels
 returns-then-not-has_sentinels g c =
     let k = c.if-not-has_sentinels.ensures in
-    let n = length (g.W.Words.row c.args.m.now.words) in
-    let v = (covers 0 n (omega arith)).0 in
+    let o = c.requires.open.fits in
     record { value = unsound_0 _ _ k.value; looks = k.looks; touches = omega arith }
 
 pub returns-then-free-limit : goal.returns-then-free-limit
 returns-then-free-limit g c =
     let k = c.if-not-has_sentinels.ensures in
     let f = c.free-free.ensures in
-    let n = length (g.W.Words.row c.args.m.now.words) in
-    let v = (covers 0 n (omega arith)).0 in
-    let e = ap length (f.looks.same ∙ k.looks.same) in
-    let r : c.free-free.result ≡ free_of (g.W.Words.row c.args.m.now.words) = f.value ∙ ap free_of k.looks.same in
-    record { value = unsound_2 _ _ (omega arith); looks = looked f.looks k.looks; touches = omega arith }
+    let o = c.requires.open.fits in
+    let u = looked f.looks k.looks in
+    let e = ap length u.same in
+    let r = f.value ∙ ap free_of k.looks.same in
+    record { value = unsound_2 _ _ (omega arith); looks = u; touches = omega arith }
 
 pub tiles-requires : goal.tiles-requires
 tiles-requires g c =
-    let k = c.if-not-has_sentinels.ensures in
-    let f = c.free-free.ensures in
-    let n = length (g.W.Words.row c.args.m.now.words) in
-    let v = (covers 0 n (omega arith)).0 in
-    let e = ap length (f.looks.same ∙ k.looks.same) in
-    let r : c.free-free.result ≡ free_of (g.W.Words.row c.args.m.now.words) = f.value ∙ ap free_of k.looks.same in
-    record {
-      walkable = walkable_still _ _ _ _ _ (record { fits = c.requires.fits; short = c.requires.short; free_is = r; within = omega arith }) (f.looks.same ∙ k.looks.same) (f.looks.frame.slots ∙ k.looks.frame.slots);
-      few = omega arith;
-    }
+    let b = begins c.if-not-has_sentinels.ensures.looks c.free-free.ensures.looks c.requires.open c.free-free.ensures.value (omega arith) in
+    let o = c.requires.open in
+    let n = b.few in
+    record { walkable = b.here; few = omega arith }
 
 pub returns-then-not-tiles : goal.returns-then-not-tiles
 returns-then-not-tiles g c =
-    let k = c.if-not-has_sentinels.ensures in
-    let f = c.free-free.ensures in
+    let b = begins c.if-not-has_sentinels.ensures.looks c.free-free.ensures.looks c.requires.open c.free-free.ensures.value (omega arith) in
     let t = c.if-not-tiles.ensures in
-    let n = length (g.W.Words.row c.args.m.now.words) in
-    let v = (covers 0 n (omega arith)).0 in
-    let e = ap length (f.looks.same ∙ k.looks.same) in
-    let r : c.free-free.result ≡ free_of (g.W.Words.row c.args.m.now.words) = f.value ∙ ap free_of k.looks.same in
-    record {
-      value = unsound_3 _ _ (ends_is _ _ _ _ (f.looks.same ∙ k.looks.same) (f.looks.frame.slots ∙ k.looks.frame.slots) _ _ r t.value);
-      looks = looked t.looks (looked f.looks k.looks);
-      touches = omega arith;
-    }
+    let n = b.few in
+    record { value = unsound_3 _ _ _ _ _ b.looks.same b.looks.frame.slots b.first.free_is t.value; looks = looked t.looks b.looks; touches = omega arith }
 
-pub are_objects-requires : goal.are_objects-requires
-are_objects-requires g c =
-    let k = c.if-not-has_sentinels.ensures in
-    let f = c.free-free.ensures in
+pub answer_twice-sound-requires : goal.answer_twice-sound-requires
+answer_twice-sound-requires g c =
+    let b = begins c.if-not-has_sentinels.ensures.looks c.free-free.ensures.looks c.requires.open c.free-free.ensures.value (omega arith) in
     let t = c.if-not-tiles.ensures in
-    let n = length (g.W.Words.row c.args.m.now.words) in
-    let e = ap length (f.looks.same ∙ k.looks.same) in
-    let r : c.free-free.result ≡ free_of (g.W.Words.row c.args.m.now.words) = f.value ∙ ap free_of k.looks.same in
-    let v = (covers c.free-free.result n (omega arith)).1 (omega arith) in
-    let s = t.looks.frame.slots ∙ f.looks.frame.slots ∙ k.looks.frame.slots in
-    record {
-      walkable = walkable_still _ _ _ _ _ (record { fits = c.requires.fits; short = c.requires.short; free_is = r; within = omega arith }) (t.looks.same ∙ f.looks.same ∙ k.looks.same) s;
-      tiled = ends_after _ _ _ _ _ t.looks.same t.looks.frame.slots t.value;
-      few = omega arith;
-    }
+    let p = parses b t.looks t.value in
+    let o = c.requires.open in
+    let l = ap length (objects_still t.looks) in
+    let k = p.here.cost in
+    let n = p.first.tiling.walkable.within in
+    let s = p.looks.frame.slots in
+    record { tiled = p.here.tiling; clean = p.here.clean; few = omega arith }
 
-pub returns-then-not-are_objects : goal.returns-then-not-are_objects
-returns-then-not-are_objects g c =
-    let k = c.if-not-has_sentinels.ensures in
-    let f = c.free-free.ensures in
+pub stamp-requires : goal.stamp-requires
+stamp-requires g c =
+    let b = begins c.if-not-has_sentinels.ensures.looks c.free-free.ensures.looks c.requires.open c.free-free.ensures.value (omega arith) in
     let t = c.if-not-tiles.ensures in
-    let o = c.if-not-are_objects.ensures in
-    let n = length (g.W.Words.row c.args.m.now.words) in
-    let e = ap length (f.looks.same ∙ k.looks.same) in
-    let v = (covers c.free-free.result n (omega arith)).1 (omega arith) in
-    let s = t.looks.frame.slots ∙ f.looks.frame.slots ∙ k.looks.frame.slots in
-    record {
-      value = unsound_4 _ _ (objects_are _ _ _ _ (t.looks.same ∙ f.looks.same ∙ k.looks.same) s _ o.value);
-      looks = looked o.looks (looked t.looks (looked f.looks k.looks));
-      touches = omega arith;
-    }
-
-pub are_references-requires : goal.are_references-requires
-are_references-requires g c =
-    let k = c.if-not-has_sentinels.ensures in
-    let f = c.free-free.ensures in
-    let t = c.if-not-tiles.ensures in
-    let o = c.if-not-are_objects.ensures in
-    let n = length (g.W.Words.row c.args.m.now.words) in
-    let e = ap length (f.looks.same ∙ k.looks.same) in
-    let r : c.free-free.result ≡ free_of (g.W.Words.row c.args.m.now.words) = f.value ∙ ap free_of k.looks.same in
-    let v = (covers c.free-free.result n (omega arith)).1 (omega arith) in
-    let s = o.looks.frame.slots ∙ t.looks.frame.slots ∙ f.looks.frame.slots ∙ k.looks.frame.slots in
-    let p : c.are_objects.new.m.slots * (1 + c.free-free.result) ≡ c.tiles.new.m.slots * (1 + c.free-free.result) = ap (λ (x : ℕ). x * (1 + c.free-free.result)) o.looks.frame.slots in
-    let e2 = ap length (o.looks.same ∙ t.looks.same ∙ f.looks.same ∙ k.looks.same) in
-    record {
-      walkable = walkable_still _ _ _ _ _ (record { fits = c.requires.fits; short = c.requires.short; free_is = r; within = omega arith }) (o.looks.same ∙ t.looks.same ∙ f.looks.same ∙ k.looks.same) s;
-      within = omega arith;
-      few = omega arith;
-    }
+    let a = c.answer_twice-sound.ensures in
+    let p = parses b t.looks t.value in
+    let m = marked a.frame a.stays in
+    let o = c.requires.open in
+    let l = ap length (objects_still t.looks) in
+    let d = ap length m.same in
+    let k = p.here.cost in
+    let n = p.first.tiling.walkable.within in
+    let s = p.looks.frame.slots in
+    record { walkable = m.walkable; small = omega arith; few = omega arith }
 
 pub returns : goal.returns
 returns g c =
-    let k = c.if-not-has_sentinels.ensures in
-    let f = c.free-free.ensures in
+    let b = begins c.if-not-has_sentinels.ensures.looks c.free-free.ensures.looks c.requires.open c.free-free.ensures.value (omega arith) in
     let t = c.if-not-tiles.ensures in
-    let o = c.if-not-are_objects.ensures in
-    let a = c.are_references.ensures in
-    let n = length (g.W.Words.row c.args.m.now.words) in
-    let e = ap length (f.looks.same ∙ k.looks.same) in
-    let r : c.free-free.result ≡ free_of (g.W.Words.row c.args.m.now.words) = f.value ∙ ap free_of k.looks.same in
-    let p : c.are_objects.new.m.slots * (1 + c.free-free.result) ≡ c.tiles.new.m.slots * (1 + c.free-free.result) = ap (λ (x : ℕ). x * (1 + c.free-free.result)) o.looks.frame.slots in
-    let v = (covers c.free-free.result n (omega arith)).1 (omega arith) in
+    let a = c.answer_twice-sound.ensures in
+    let z = c.stamp.ensures in
+    let p = parses b t.looks t.value in
+    let m = marked a.frame a.stays in
+    let l = ap length (objects_still t.looks) in
+    let d = ap length m.same in
+    let k = p.here.cost in
+    let n = p.first.tiling.walkable.within in
+    let s = p.looks.frame.slots in
+    let i = p.first.tiling.walkable.free_is in
     record {
-      value = sound_by_slots _ _ _ k.value (omega arith)
-          (ends_is _ _ _ _ (f.looks.same ∙ k.looks.same) (f.looks.frame.slots ∙ k.looks.frame.slots) _ _ r t.value)
-          (objects_are _ _ _ _ (t.looks.same ∙ f.looks.same ∙ k.looks.same) (t.looks.frame.slots ∙ f.looks.frame.slots ∙ k.looks.frame.slots) _ o.value)
-          (references_are _ _ _ _ (o.looks.same ∙ t.looks.same ∙ f.looks.same ∙ k.looks.same) (o.looks.frame.slots ∙ t.looks.frame.slots ∙ f.looks.frame.slots ∙ k.looks.frame.slots) _ a.value);
-      looks = looked a.looks (looked o.looks (looked t.looks (looked f.looks k.looks)));
+      value = sound_by _ _ _ c.if-not-has_sentinels.ensures.value (rw i at n) (rw i at p.first.tiling.ends) p.first.clean (refer_still p.looks _ a.value);
+      looks = record { same = z.after ∙ m.back ∙ p.looks.same; frame = framed z.frame (framed a.frame p.looks.frame) };
       touches = omega arith;
     }

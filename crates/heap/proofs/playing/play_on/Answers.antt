@@ -1,5 +1,5 @@
 -- One call more is played.
-use Rattle.std.proofs.Common.{length, take, sym, refl, ◌∙◌, arith}
+use Rattle.std.proofs.Common.{sym, refl, ◌∙◌, arith}
 use Rattle.std.proofs.lemmas.List.{length-take-le, take_more}
 use Rattle.mutator.specs.declared.Ask.TheVariants.{New}
 use Rattle.heap.proofs.Scripts.{played_none, played_more}
@@ -13,8 +13,7 @@ loop-i-preserved g c =
     let inv = c.loop-i.invariant in
     let script = c.args.script.now in
     let i = c.loop-i.i in
-    let k = rw inv.0 at c.take_turn.ensures.turns in
-    (
+    let k = rw inv.0 at c.take_turn.ensures.turns in (
       c.take_turn.ensures.slots ∙ inv.0,
       rw (take_more script i (New 0 0 0) c.loop-i-test.true)
           (played_more _ _ _ _ _ _ _ _ _ _ _ _ _ i (sym (length-take-le i script (omega arith))) c.loop-i-test.true (omega (arith, c.requires.room, c.loop-i.auto.out, c.loop-i-test.true)) inv.1 k c.from.ensures),

@@ -4,11 +4,10 @@ use Rattle.std.specs.Str.{bytes_eq}
 use Rattle.std.specs.Option.{ok_or}
 use Rattle.std.proofs.lemmas.Result.{err_from_is_err_and}
 use Rattle.mutator.specs.Numbers.{listed}
-use Rattle.mutator.specs.Table.{name, numbers, calls, call_at}
 use Rattle.script.specs.declared.error.LineError.TheVariants.{UnknownCall}
 use Rattle.script.specs.Tokens.{tokens}
 use Rattle.script.specs.Reading.{bind, reads}
-use Rattle.script.proofs.Naming.{pass, called_ok, called_err, called_none, called_past}
+use Rattle.script.proofs.Naming.{pass, called_ok, called_err, called_past}
 use Rattle.script.proofs.read.named_call.Goals as goal
 
 pub loop-place-init : goal.loop-place-init

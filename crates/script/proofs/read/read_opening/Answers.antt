@@ -1,5 +1,4 @@
 -- No token is empty.
-use Rattle.std.proofs.Common.{◌∙◌}
 use Rattle.script.specs.Tokens.{pieces, tokens}
 use Rattle.script.specs.Reading.{body}
 use Rattle.script.proofs.Values.{first_filled}
