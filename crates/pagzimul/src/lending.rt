@@ -18,6 +18,14 @@ pub extern "C" fn pagzimul_fits(words: &[u64], slots: u64) -> bool
     slots < 65536 && words.len() < ADDRESSES && OWN + slots as usize <= words.len()
 }
 
+// The words of a started heap, of which there are some: C passes a pointer and a count, as for a slice. As a parameter a slice may
+// come with NULL, and five instructions make it an empty one; in a struct it does not.
+#[repr(C)]
+#[derive(Drop)]
+pub struct Started<'a> {
+    pub words: &'a mut [u64],
+}
+
 // What a piece of work gave, and how many words it touched. Other modules come to what was given by `within` alone.
 #[derive(Clone, Copy)]
 pub struct Counted<T> {
