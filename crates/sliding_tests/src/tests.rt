@@ -18,7 +18,7 @@ fn nothing_dead_stays(rt: HostRuntime) -> Result<(), Fail> {
     room[69] = 11;
     room[70] = 0x1_0000_0002;
     room[72] = 0x4200;
-    assert_eq!(rt; slid(&mut room, 2), 21);
+    assert_eq!(rt; slid(&mut room, 2), 18);
     assert_eq!(rt; room[2], 74);
     assert_eq!(rt; room[62], 2);
     assert!(rt;
