@@ -21,7 +21,8 @@
  *   - `words` points to `count` words that nobody else reads or writes during a call, and that may be written but for
  *     pagzimul_fits (NULL is allowed with count 0);
  *   - every call but pagzimul_fits, pagzimul_start and pagzimul_is_sound is made on words for which pagzimul_start or
- *     pagzimul_is_sound answered true, with the same count and slots, and that only these calls have written since.
+ *     pagzimul_is_sound answered true, with the same count and slots, and that only these calls have written since; so
+ *     they are never NULL, which none of these calls looks at.
  * Every other number may be any number: one that is out of range is answered by its code. Slots are looked at from the
  * left, then whether there is something in the slot whose object is read or written, then the place or the size.
  *

@@ -19,7 +19,7 @@ pub extern "C" fn pagzimul_fits(words: &[u64], slots: u64) -> bool
 }
 
 // The words of a started heap, of which there are some: C passes a pointer and a count, as for a slice. As a parameter a slice may
-// come with NULL, and five instructions make it an empty one; in a struct it does not.
+// come with NULL, and six instructions make it an empty one; in a struct it does not.
 #[repr(C)]
 #[derive(Drop)]
 pub struct Started<'a> {
