@@ -23,6 +23,8 @@ static const workload workloads[] = {
     { "array", array },
     { "graph", MANAGER_FREES ? NULL : graph },
     { "nearly-full", nearly_full },
+    { "small-quarter", small_quarter },
+    { "small-half", small_half },
     { "fill-small", fill_small },
     { "fill-large", fill_large },
 };

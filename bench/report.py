@@ -3,18 +3,20 @@ import math
 import statistics
 import subprocess
 
-from contestants import CONTESTANTS, MANAGER, PEERS, TWINS, WORKLOADS
+from contestants import CONTESTANTS, INLINE, MANAGER, PEERS, SHAPES, SMALL_WORKLOADS, TWINS, WORKLOADS
 
 NANOSECONDS_A_SECOND = 1e9
 NANOSECONDS_A_MILLISECOND = 1e6
+MICROSECONDS_A_MILLISECOND = 1e3
+PICOSECONDS_A_NANOSECOND = 1e3
 MEBIBYTE = 1 << 20
 UNFIT, FULL = 'n/a', 'full'
 
 
 class Figures:
-    def __init__(self, runs, pauses, fills):
+    def __init__(self, runs, pauses, fills=None):
         self.runs, self.pauses, self.fills = runs, pauses, fills
-        self.limit = fills[MANAGER.name, 'fill-small'][0]['limit']
+        self.limit = next(iter(runs.values()))[0]['limit']
 
     # The best of the runs, in seconds; None where the contestant could not do the work.
     def seconds(self, contestant, workload):
@@ -61,7 +63,7 @@ def table(head, rows):
 
 
 def seconds_table(figures):
-    others = [*TWINS, *PEERS]
+    others = [INLINE, *TWINS, *PEERS]
     twin = figures.twin()
 
     def cells(workload):
@@ -95,21 +97,67 @@ def compiler():
     return subprocess.run(['gcc', '--version'], capture_output=True, text=True).stdout.splitlines()[0]
 
 
-def tables(figures, repeats, pause_repeats, quick):
+def tables(figures, extent):
     twin = figures.twin()
     heading = f'The limit of every heap is {figures.limit // MEBIBYTE} MiB. Contestants were built by {compiler()}.'
-    if quick:
+    if extent.quick:
         heading += ' This was a quick look: a part of each workload, once.'
-    parts = [
+    return [
         heading,
-        f'Seconds of processor time, best of {repeats}; for the others as a ratio to {MANAGER.title} in the same run, so that '
+        f'Seconds of processor time, best of {extent.repeats}; for the others as a ratio to {MANAGER.title} in the same run, so that '
         f'below 1 is faster than it. The last column is {MANAGER.title} by the faster twin, {twin.title}.',
         seconds_table(figures),
-        f'Longest single allocation (or free) in milliseconds, the median of {pause_repeats} runs:',
+        f'Longest single allocation (or free) in milliseconds, the median of {extent.pause_repeats} runs:',
         grid(figures, lambda c, w: f'{figures.pause(c, w):.2f}'),
         'Peak memory in MiB: resident at most, beyond what was resident before the heap was made:',
         grid(figures, lambda c, w: f'{figures.peak(c, w):.1f}'),
         'How full the heap can get: payload (places and words, 8 bytes each) held when the limit is met, in per cent of it:',
         fullness_table(figures),
     ]
-    return '\n\n'.join(parts)
+
+
+# One row a size of heap and workload, one cell a contestant; what is not there says why.
+def small_table(small, contestants, head, measure):
+    def cell(figures, contestant, workload):
+        if figures.seconds(contestant, workload) is None:
+            return figures.reason(contestant, workload)
+        return measure(figures, contestant, workload)
+
+    rows = [[f'{kibibytes} KiB, {w.title}', *(cell(figures, c, w) for c in contestants)]
+            for w in SMALL_WORKLOADS for kibibytes, figures in small.items()]
+    return table(['Heap', head, *(c.title for c in contestants[1:])], rows)
+
+
+def small_tables(small, contestants, version, extent):
+    def seconds(figures, c, w):
+        return f'{figures.seconds(c, w):.3f}' if c is MANAGER else f'{figures.ratio(c, w):.2f}'
+
+    from_where = f' MicroPython is {version}.' if version else ' MicroPython was left out, since its sources could not be had.'
+    return [
+        f'Small heaps, of which a quarter and half are held.{from_where} Seconds of processor time, best of {extent.repeats}; for the '
+        f'others as a ratio to {MANAGER.title}:',
+        small_table(small, contestants, f'{MANAGER.title}, seconds', seconds),
+        f'Longest single allocation on these heaps in microseconds, the median of {extent.pause_repeats} runs:',
+        small_table(small, contestants, MANAGER.title, lambda f, c, w: f'{f.pause(c, w) * MICROSECONDS_A_MILLISECOND:.1f}'),
+    ]
+
+
+# What one collection and one copy took, in nanoseconds a word of the heap.
+def collecting_row(words, runs, shape):
+    def best(contestant, name):
+        return min(run[name] for run in runs[contestant.name, shape.name]) / words
+
+    copy = min(best(c, 'copy') for c in (MANAGER, *TWINS)) / PICOSECONDS_A_NANOSECOND
+    took = [best(c, 'collect') for c in (MANAGER, *TWINS)]
+    by_twin, by_copy = took[0] / min(took[1:]), took[0] / copy
+    return [f'{words:,}', *(f'{t:.2f}' for t in took), f'{copy:.2f}', f'{by_twin:.2f}', f'{by_copy:.1f}']
+
+
+def collecting_tables(collecting, extent):
+    head = ['Words', MANAGER.title, *(twin.title for twin in TWINS), 'memcpy', f'{MANAGER.title} / twin', f'{MANAGER.title} / memcpy']
+    parts = [f'One collection of a heap without a free word, in nanoseconds a word of it, the fastest of many in '
+             f'{extent.pause_repeats} processes; beside them memcpy of all its words, and by how much the collection is slower than the faster twin and than memcpy.']
+    for shape in SHAPES:
+        rows = [collecting_row(words, runs, shape) for words, runs in collecting.items()]
+        parts += [f'{shape.title}:', table(head, rows)]
+    return parts

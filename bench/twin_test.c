@@ -1,6 +1,7 @@
-/* Plays calls made at random on the manager and on the twin, and compares every answer and, after every call, the whole
- * row of words. Both begin with the same words as if at random, so that words that are never written compare, too:
- * second words and what lies behind the free words included. Exit status 1 at the first difference. */
+/* Plays calls made at random on the manager and on the twin, and compares every answer and, after every call, the row of words
+ * up to where the free words begin: what is held, where it lies, and what leads to it. Second words and what lies behind the
+ * free words are not compared, since nobody relies on them, and the manager may write fewer of them than the twin. Exit
+ * status 1 at the first difference. */
 #include "twin.h"
 #include "random.h"
 
@@ -12,6 +13,7 @@
 enum { GAMES = 3000, CALLS_A_GAME = 400, OWN = 64, SLOTS_LIMIT = 12, ROOM_LIMIT = 700, WORDS_LIMIT = OWN + SLOTS_LIMIT + ROOM_LIMIT };
 enum { CHECK_EVERY = 16, ODD_ONE_IN = 24, SMALL_SIZE = 6, LARGE_SIZE = 60, WORD_BITS = 64 };
 enum { KIND_NEW, KIND_GET, KIND_SET, KIND_READ, KIND_WRITE, KIND_COPY, KIND_CLEAR, KIND_SAME, KIND_SIZES, KIND_COLLECT, KINDS };
+enum { FREE = 2, SECOND = 1, HEADS = 2, SIZE_MASK = 0xffff, WORDS_SHIFT = 16 };
 enum { CODES = PAGZIMUL_NO_PLACE + 1 };
 
 static const char *const names[KINDS] = { "new", "get", "set", "read", "write", "copy", "clear", "same", "sizes", "collect" };
@@ -81,14 +83,32 @@ static ask next_ask(const game *g, uint64_t *state)
     return q;
 }
 
+static void fail_at(const game *g, const char *after, const ask *q, size_t i)
+{
+    fprintf(stderr, "twin_test: after %s %" PRIu64 " %" PRIu64 " %" PRIu64 " word %zu of %zu differs: %" PRIx64 ", twin %" PRIx64 "\n",
+        after, q->a, q->b, q->c, i, g->count, ours[i], theirs[i]);
+    exit(1);
+}
+
+static void check_words(const game *g, const char *after, const ask *q, size_t from, size_t end)
+{
+    for (size_t i = from; i < end; i++)
+        if (ours[i] != theirs[i])
+            fail_at(g, after, q, i);
+}
+
+/* The manager's own words and the slots, and object for object its header, places and words. */
 static void check_rows(const game *g, const char *after, const ask *q)
 {
-    for (size_t i = 0; i < WORDS_LIMIT; i++)
-        if (ours[i] != theirs[i]) {
-            fprintf(stderr, "twin_test: after %s %" PRIu64 " %" PRIu64 " %" PRIu64 " word %zu of %zu differs: %" PRIx64 ", twin %" PRIx64 "\n",
-                after, q->a, q->b, q->c, i, g->count, ours[i], theirs[i]);
-            exit(1);
-        }
+    size_t at = OWN + g->slots;
+
+    check_words(g, after, q, 0, at);
+    while (at < ours[FREE]) {
+        check_words(g, after, q, at, at + SECOND);
+        size_t weight = HEADS + (ours[at] & SIZE_MASK) + (ours[at] >> WORDS_SHIFT & SIZE_MASK);
+        check_words(g, after, q, at + HEADS, at + weight);
+        at += weight;
+    }
 }
 
 static void check_told(const ask *q, pagzimul_told us, pagzimul_told them)
@@ -102,20 +122,22 @@ static void check_told(const ask *q, pagzimul_told us, pagzimul_told them)
     exit(1);
 }
 
-/* Do both find the rows sound, or not? One word is changed before, now and then, and put back. */
-static void check_sound(const game *g, uint64_t *state, const ask *q)
+/* Do both find the manager's row sound, or not, and leave it as it was? One word is changed before, now and then, and put back. */
+static void check_sound(const game *g, uint64_t *state)
 {
-    size_t i = random_below(state, g->count);
-    uint64_t kept = ours[i];
+    static uint64_t kept[WORDS_LIMIT], seen[WORDS_LIMIT];
+    size_t i = random_below(state, g->count), bytes = sizeof kept;
 
+    memcpy(kept, ours, bytes);
     if (random_below(state, 2) == 0)
-        ours[i] = theirs[i] = random_next(state) >> random_below(state, WORD_BITS);
-    if (pagzimul_is_sound(ours, g->count, g->slots) != twin_is_sound(theirs, g->count, g->slots)) {
-        fprintf(stderr, "twin_test: is_sound differs\n");
+        ours[i] = random_next(state) >> random_below(state, WORD_BITS);
+    memcpy(seen, ours, bytes);
+    bool sound = twin_is_sound(seen, g->count, g->slots);
+    if (pagzimul_is_sound(ours, g->count, g->slots) != sound || memcmp(ours, seen, bytes) != 0) {
+        fprintf(stderr, "twin_test: is_sound differs, or a word was changed\n");
         exit(1);
     }
-    ours[i] = theirs[i] = kept;
-    check_rows(g, "is_sound", q);
+    memcpy(ours, kept, bytes);
 }
 
 static void play(uint64_t *state)
@@ -135,14 +157,14 @@ static void play(uint64_t *state)
         fprintf(stderr, "twin_test: start differs\n");
         exit(1);
     }
-    check_rows(&g, "start", &q);
+    check_words(&g, "start", &q, 0, WORDS_LIMIT);
     for (int i = 0; started && i < CALLS_A_GAME; i++) {
         q = next_ask(&g, state);
         pagzimul_told us = ask_ours(&g, &q);
         check_told(&q, us, ask_theirs(&g, &q));
         check_rows(&g, names[q.kind], &q);
         if (i % CHECK_EVERY == 0)
-            check_sound(&g, state, &q);
+            check_sound(&g, state);
     }
 }
 
@@ -164,6 +186,6 @@ int main(void)
         fprintf(stderr, "twin_test: nothing was full\n");
         return 1;
     }
-    printf("twin_test: %" PRIu64 " calls, all answers and rows the same\n", calls);
+    printf("twin_test: %" PRIu64 " calls, all answers the same, and all that is held\n", calls);
     return 0;
 }

@@ -282,7 +282,7 @@ static void near_put(unsigned place, uint64_t x)
 static void near_fill(void)
 {
     make(NEAR_ALL, NEAR_TABLES, 0);
-    for (unsigned table = 0; table < NEAR_TABLES; table++) {
+    for (unsigned table = 0; table != NEAR_TABLES; table++) {
         make(NEAR_TABLE, NEAR_TABLE_PLACES, 0);
         manager_set(NEAR_ALL, table, NEAR_TABLE);
         for (unsigned place = 0; place < NEAR_TABLE_PLACES; place++)
@@ -306,6 +306,55 @@ static uint64_t nearly_full(unsigned rounds)
     }
     return sum;
 }
+
+/* A small heap, of which so many per cent are held, by what this manager needs: a table whose entries are replaced at random,
+ * each an object that leads back to the table and to a text of its own. */
+enum { SMALL_STEPS = 500000, SMALL_PLACES = 2, SMALL_WORDS = 1, SMALL_BACK = 0, SMALL_LINE = 1, LINE_WORDS = 6 };
+/* An entry and its place in the table, and a text of the mean size, rounded up. */
+enum { SMALL_WEIGHT = 2 + SMALL_PLACES + SMALL_WORDS + 1 + 2 + (1 + LINE_WORDS + 1) / 2 };
+enum { SMALL_TABLE, SMALL_ENTRY, SMALL_TEXT };
+
+static uint64_t small_take(unsigned place)
+{
+    manager_get(SMALL_ENTRY, SMALL_TABLE, place);
+    if (manager_is_none(SMALL_ENTRY))
+        return 0;
+    uint64_t x = manager_read(SMALL_ENTRY, SMALL_PLACES, 0);
+    manager_get(SMALL_TEXT, SMALL_ENTRY, SMALL_LINE);
+    x += manager_read(SMALL_TEXT, 0, 0);
+    drop(SMALL_TEXT);
+    drop(SMALL_ENTRY);
+    return x;
+}
+
+static void small_put(unsigned place, uint64_t x)
+{
+    make(SMALL_ENTRY, SMALL_PLACES, SMALL_WORDS);
+    manager_write(SMALL_ENTRY, SMALL_PLACES, 0, x);
+    manager_set(SMALL_ENTRY, SMALL_BACK, SMALL_TABLE);
+    make(SMALL_TEXT, 0, 1 + (unsigned)(x % LINE_WORDS));
+    manager_write(SMALL_TEXT, 0, 0, x);
+    manager_set(SMALL_ENTRY, SMALL_LINE, SMALL_TEXT);
+    manager_set(SMALL_TABLE, place, SMALL_ENTRY);
+}
+
+static uint64_t small(unsigned per_cent, unsigned rounds)
+{
+    unsigned entries = (unsigned)(HEAP_BYTES / sizeof(uint64_t) * per_cent / PER_CENT / SMALL_WEIGHT);
+    uint64_t state = RANDOM_SEED, sum = 0;
+
+    make(SMALL_TABLE, entries, 0);
+    for (unsigned i = 0; i < SMALL_STEPS / ROUNDS_WHOLE * rounds; i++) {
+        unsigned place = (unsigned)random_below(&state, entries);
+        sum += small_take(place);
+        small_put(place, random_next(&state));
+    }
+    return sum;
+}
+
+static uint64_t small_quarter(unsigned rounds) { return small(PER_CENT / 4, rounds); }
+
+static uint64_t small_half(unsigned rounds) { return small(PER_CENT / 2, rounds); }
 
 /* Objects of one size, each leading to the one before, until the heap is full. */
 enum { FILL_PLACES = 1, FILL_SMALL_WORDS = 2, FILL_LARGE_WORDS = 31 };

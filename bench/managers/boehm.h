@@ -14,8 +14,13 @@
 /* How often it collects before it says that the heap is full; by default it says so without. */
 enum { RETRIES = 1 };
 
+/* It does not begin with less. */
+#define BOEHM_LEAST_BYTES (UINT64_C(64) << 10)
+
 static inline void manager_start(void)
 {
+    if (HEAP_BYTES < BOEHM_LEAST_BYTES)
+        out_of_room();
     GC_set_markers_count(1);
     GC_set_all_interior_pointers(0);
     GC_set_max_heap_size(HEAP_BYTES);

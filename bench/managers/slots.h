@@ -1,4 +1,5 @@
-/* The manager, and its twin with -DTWIN: the workloads' operations as its calls. Both are called in the same way. */
+/* The manager, and its twin with -DTWIN: the workloads' operations as its calls. Both are called in the same way. With -DINLINE
+ * the manager's calls that only read and write are those of its inline header. */
 #ifndef MANAGER_H
 #define MANAGER_H
 
@@ -9,6 +10,13 @@
 #define CALL(name) twin_##name
 #else
 #define CALL(name) pagzimul_##name
+#endif
+
+#ifdef INLINE
+#include "../../bindings/c/pagzimul_inline.h"
+#define ACCESS(name) pagzimul_inline_##name
+#else
+#define ACCESS(name) CALL(name)
 #endif
 
 #define MANAGER_FREES false
@@ -29,27 +37,27 @@ static inline void manager_new(unsigned s, unsigned places, unsigned words)
         out_of_room();
 }
 
-static inline void manager_get(unsigned t, unsigned s, unsigned i) { CALL(get)(heap, HEAP_WORDS, SLOTS, t, s, i); }
+static inline void manager_get(unsigned t, unsigned s, unsigned i) { ACCESS(get)(heap, HEAP_WORDS, SLOTS, t, s, i); }
 
-static inline void manager_set(unsigned s, unsigned i, unsigned t) { CALL(set)(heap, HEAP_WORDS, SLOTS, s, i, t); }
+static inline void manager_set(unsigned s, unsigned i, unsigned t) { ACCESS(set)(heap, HEAP_WORDS, SLOTS, s, i, t); }
 
 static inline uint64_t manager_read(unsigned s, unsigned places, unsigned i)
 {
     (void)places;
-    return CALL(read)(heap, HEAP_WORDS, SLOTS, s, i).val;
+    return ACCESS(read)(heap, HEAP_WORDS, SLOTS, s, i).val;
 }
 
 static inline void manager_write(unsigned s, unsigned places, unsigned i, uint64_t x)
 {
     (void)places;
-    CALL(write)(heap, HEAP_WORDS, SLOTS, s, i, x);
+    ACCESS(write)(heap, HEAP_WORDS, SLOTS, s, i, x);
 }
 
-static inline void manager_copy(unsigned t, unsigned s) { CALL(copy)(heap, HEAP_WORDS, SLOTS, t, s); }
+static inline void manager_copy(unsigned t, unsigned s) { ACCESS(copy)(heap, HEAP_WORDS, SLOTS, t, s); }
 
-static inline void manager_clear(unsigned t) { CALL(clear)(heap, HEAP_WORDS, SLOTS, t); }
+static inline void manager_clear(unsigned t) { ACCESS(clear)(heap, HEAP_WORDS, SLOTS, t); }
 
-static inline bool manager_is_none(unsigned s) { return CALL(sizes)(heap, HEAP_WORDS, SLOTS, s).code == PAGZIMUL_NOTHING; }
+static inline bool manager_is_none(unsigned s) { return ACCESS(sizes)(heap, HEAP_WORDS, SLOTS, s).code == PAGZIMUL_NOTHING; }
 
 static inline void manager_free(unsigned s) { (void)s; }
 

@@ -4,7 +4,13 @@
 #include <stdio.h>
 #include <stdlib.h>
 
+#ifdef INLINE
+#include "pagzimul_inline.h"
+#define CALL(name) pagzimul_inline_##name
+#else
 #include "pagzimul.h"
+#define CALL(name) pagzimul_##name
+#endif
 
 enum { SIZES_UNIT = 65536, FIRST_TEXT_WORDS = 3 };
 
@@ -31,13 +37,13 @@ bool heap_start(size_t count)
 
 size_t heap_words(void) { return lent_count; }
 void heap_collect(void) { done(pagzimul_collect(HEAP)); }
-void get(reg t, reg s, unsigned place) { done(pagzimul_get(HEAP, t, s, place)); }
-void set(reg s, unsigned place, reg t) { done(pagzimul_set(HEAP, s, place, t)); }
-uint64_t word(reg s, uint64_t i) { return done(pagzimul_read(HEAP, s, i)); }
-void set_word(reg s, uint64_t i, uint64_t x) { done(pagzimul_write(HEAP, s, i, x)); }
-void copy(reg t, reg s) { done(pagzimul_copy(HEAP, t, s)); }
-void clear(reg t) { done(pagzimul_clear(HEAP, t)); }
-bool same(reg s, reg t) { return done(pagzimul_same(HEAP, s, t)); }
+void get(reg t, reg s, unsigned place) { done(CALL(get)(HEAP, t, s, place)); }
+void set(reg s, unsigned place, reg t) { done(CALL(set)(HEAP, s, place, t)); }
+uint64_t word(reg s, uint64_t i) { return done(CALL(read)(HEAP, s, i)); }
+void set_word(reg s, uint64_t i, uint64_t x) { done(CALL(write)(HEAP, s, i, x)); }
+void copy(reg t, reg s) { done(CALL(copy)(HEAP, t, s)); }
+void clear(reg t) { done(CALL(clear)(HEAP, t)); }
+bool same(reg s, reg t) { return done(CALL(same)(HEAP, s, t)); }
 bool is_nil(reg s) { return same(s, R_NIL); }
 
 /* As copy, but the object is not held twice. */
@@ -66,7 +72,7 @@ kind kind_of(reg s)
 {
     if (is_nil(s))
         return NIL;
-    uint64_t sizes = done(pagzimul_sizes(HEAP, s)), places = sizes / SIZES_UNIT, words = sizes % SIZES_UNIT;
+    uint64_t sizes = done(CALL(sizes)(HEAP, s)), places = sizes / SIZES_UNIT, words = sizes % SIZES_UNIT;
     switch (places) {
     case NUMBER_PLACES:
         return words == CONSTANT_WORDS ? CONSTANT : words == NUMBER_WORDS ? NUMBER : STRING;
@@ -158,7 +164,7 @@ static void text_grow(uint64_t words)
 
 void text_add(unsigned char c)
 {
-    uint64_t bytes = word(R_TEXT, TEXT_LENGTH), words = done(pagzimul_sizes(HEAP, R_TEXT)) % SIZES_UNIT;
+    uint64_t bytes = word(R_TEXT, TEXT_LENGTH), words = done(CALL(sizes)(HEAP, R_TEXT)) % SIZES_UNIT;
     if (text_words(bytes + 1) > words)
         text_grow(words);
     uint64_t i = TEXT_BYTES + bytes / BYTES_IN_WORD, shift = bytes % BYTES_IN_WORD * BITS_IN_BYTE;

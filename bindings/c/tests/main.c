@@ -67,6 +67,7 @@ int main(int count, char **arguments) {
     test_edges();
     test_never_started(plan);
     test_scripts(plan);
+    test_inline(plan);
     test_damaged(plan);
     puts("no difference");
     return EXIT_SUCCESS;

@@ -24,3 +24,13 @@ uint64_t random_word(random_state *random) {
 size_t random_below(random_state *random, size_t limit) {
     return limit == 0 ? 0 : (size_t)(random_word(random) % limit);
 }
+
+static const uint64_t out_of_range[] = {
+    65536, 65537, UINT64_C(1) << 32, (UINT64_C(1) << 32) + 1, UINT64_C(1) << 48, UINT64_C(1) << 63, UINT64_MAX - 1, UINT64_MAX};
+
+enum { OUT_OF_RANGE = sizeof out_of_range / sizeof out_of_range[0], LOW_BITS = 0xffff };
+
+uint64_t random_out_of_range(random_state *random, uint64_t in_range) {
+    uint64_t number = out_of_range[random_below(random, OUT_OF_RANGE)];
+    return random_below(random, 2) == 0 ? number : (number & ~(uint64_t)LOW_BITS) + (in_range & LOW_BITS);
+}

@@ -10,11 +10,7 @@
 
 enum { MESSAGE = 200, LONGEST_PATH = 4096, SMALL = 1000 };
 
-/* Numbers that are out of range: a part of the library that cut them off would be seen. */
-static const uint64_t wild_numbers[] = {
-    65536, 65537, UINT64_C(1) << 32, (UINT64_C(1) << 32) + 1, UINT64_C(1) << 48, UINT64_C(1) << 63, UINT64_MAX - 1, UINT64_MAX};
-
-enum { WILD = sizeof wild_numbers / sizeof wild_numbers[0], LARGEST = SIZE_LIMIT - 1 };
+enum { LARGEST = SIZE_LIMIT - 1 };
 
 static uint64_t answers_by_code[CODES];
 static uint64_t wild_calls;
@@ -42,12 +38,6 @@ static void compare(const game *g, size_t i, pagzimul_told expected, pagzimul_to
     fail_call(g, i, message);
 }
 
-/* One of the wild numbers, or one with the same low bits as a number in range. */
-static uint64_t wild_number(random_state *random, uint64_t in_range) {
-    uint64_t number = wild_numbers[random_below(random, WILD)];
-    return random_below(random, 2) == 0 ? number : (number & ~(uint64_t)LARGEST) + (in_range & LARGEST);
-}
-
 /* The call with some numbers far above 65,535. Slots, places and words are answered as 65,535 is, which is none of them; a size,
  * behind the slots, is no size. Nothing changes. */
 static void play_wild(const game *g, size_t i, random_state *random) {
@@ -57,7 +47,7 @@ static void play_wild(const game *g, size_t i, random_state *random) {
     for (size_t k = 0; k < strlen(asked->form->kinds); k++) {
         char kind = asked->form->kinds[k];
         if (kind == 'x' || random_below(random, 2) == 0) continue;
-        wild.numbers[k] = wild_number(random, asked->numbers[k]);
+        wild.numbers[k] = random_out_of_range(random, asked->numbers[k]);
         largest.numbers[k] = LARGEST;
         sized = sized || kind == 'n';
         changed = true;

@@ -25,8 +25,9 @@ void playing(const char *path, size_t call);
 
 void print_playing_at_death(void);
 
-/* Scripts with the answers of play; damaged and never started words; what lies at the edges. */
+/* Scripts with the answers of play, through the library and through the inline calls; damaged and never started words; what lies at the edges. */
 void test_scripts(plan plan);
+void test_inline(plan plan);
 void test_damaged(plan plan);
 void test_never_started(plan plan);
 void test_edges(void);

@@ -171,7 +171,7 @@ fn compare_all(
         // Few words; there may be too few for the slots.
         let words = 66 + random.below(135);
         let slots = 1 + random.below(6);
-        let room = words.saturating_sub(64 + slots);
+        let room = room_for(words as usize, slots) as u16;
         let calls = Limits { slots, room }.calls(heap, &mut random)?;
         let game = Game {
             words: words as u64,

@@ -18,8 +18,8 @@ use Rattle.world.proofs.Changes.{blank_valid}
 use Rattle.layout.specs.Cells.{base}
 use Rattle.layout.proofs.Worlds.{valid_of}
 use Rattle.store.specs.Ready.{Ready}
-use Rattle.heap.specs.Says.{Does, Calls, PlaySays}
-use Rattle.heap.specs.Playing.{Stands, standing, Turns, world_after, answered, Bounded, Given, Played, PlaysAs}
+use Rattle.heap.specs.Says.{Does, Calls}
+use Rattle.heap.specs.Playing.{Stands, standing, Turns, world_after, answered, Bounded, Given, Played, PlaysAs, PlaySays}
 use Rattle.heap.specs.declared.playing.Turn.{Turn}
 
 -- without room the blank world stays as it is, and calls are answered as the table says

@@ -1,6 +1,7 @@
 -- What is left of a script that is played: its answers, its touches, and a world alike to the one after it.
 use Rattle.std.specs.Prelude.{◌≡◌, ℕ, ◌+◌, ◌*◌, ◌<◌, ◌≤◌, Bool, true, false, List, [], ◌∷◌, map, length, take, drop}
 use Rattle.mutator.specs.declared.Ask.{Ask}
+use Rattle.mutator.specs.declared.Told.{Told}
 use Rattle.world.specs.World.{World, blank}
 use Rattle.world.specs.Alike.{Alike}
 use Rattle.mutator.specs.Script.{Answer, answer, answers}
@@ -69,3 +70,13 @@ pub record PlaysAs {X : Type 0} (gives : Turn → X → Type 0)
   pub bounded : Bounded n turns
   pub given : Given gives turns (take (length qs) o')
   pub rest : drop (length qs) o' ≡ drop (length qs) o
+
+-- a whole script from a world: the answers are the world's, and those past the script's length stay
+abbrev pub Tells : ℕ → World → List Ask → List Told → List Told → Type 0
+Tells cap w qs o o' =
+    (map answer_of (take (length qs) o') ≡ answers cap w qs)
+    × (drop (length qs) o' ≡ drop (length qs) o)
+
+-- on n words with r slots it begins with the blank world
+abbrev pub PlaySays : ℕ → ℕ → List Ask → List Told → List Told → Type 0
+PlaySays n r qs o o' = Tells (room n r) (blank r) qs o o'

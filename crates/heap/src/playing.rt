@@ -1,12 +1,11 @@
 // A whole script on lent words, from the beginning.
 ghost use Rattle.std.specs.Prelude.{◌≡◌, ◌<◌, ◌≤◌, length};
-ghost use Rattle.mutator.specs.Numbers.{listed};
+ghost use Rattle.mutator.specs.Listed.{listed};
 ghost use Rattle.mutator.specs.TableLaws.{there as there_in, all_there as all_there_in};
 ghost use Rattle.world.specs.World.{blank};
 ghost use Rattle.mutator.specs.Script.{answer};
 ghost use Rattle.mutator.specs.Refusals.{said};
-ghost use Rattle.heap.specs.Says.{PlaySays};
-ghost use Rattle.heap.specs.Playing.{Stands, Turns, Played, PlaysAs};
+ghost use Rattle.heap.specs.Playing.{Stands, Turns, Played, PlaysAs, PlaySays};
 
 use crate::calling::call;
 use mutator::{Ask, Entry, Number, Numbers, Refusal, Told};
@@ -69,6 +68,13 @@ impl From<Turn> for u64 {
     }
 }
 
+// Nothing is kept of it.
+impl From<Turn> for () {
+    ghost from_gives = { λ turn none. Unit {0} };
+
+    fn from(_: Turn) {}
+}
+
 // One call, on a manager that works, or where there are not words enough.
 fn take_turn(m: &mut Manager<Lent<'_>>, ready: bool, q: &Ask) -> Turn
     requires { Stands ready m.old.slots m.old.words.words.now }
@@ -91,8 +97,7 @@ fn take_turn(m: &mut Manager<Lent<'_>>, ready: bool, q: &Ask) -> Turn
 }
 
 // The one loop that plays a script. Of each turn that is kept which `T` is made of it: the answer, or the touches. An answer
-// goes to the place that `enumerate` says: zipped with `iter_mut` (tried), an invariant has no name for the elements that
-// are done.
+// goes to the place that `enumerate` says: zipped with `iter_mut`, an invariant has no name for the elements that are done.
 pub fn play_on<T: From<Turn> + Copy>(
     script: &[Ask],
     m: &mut Manager<Lent<'_>>,
@@ -131,8 +136,8 @@ pub fn play_as<T: From<Turn> + Copy>(script: &[Ask], mem: &mut [u64], slots: u16
     }
 }
 
-// A whole script on lent words: every answer is the one given in the plain world from blank. The signature was given to the
-// project.
+// A whole script on lent words: every answer is the one given in the plain world from blank. The signature is part of
+// the interface.
 pub fn play(script: &[Ask], mem: &mut [u64], slots: u16, out: &mut [Told])
     requires { (length script.now ≤ length out.old) × (length mem.old < 72057594037927936) }
     ensures { PlaySays (length mem.old) slots script.now out.old out.new }

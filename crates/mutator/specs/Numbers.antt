@@ -1,9 +1,7 @@
 -- The numbers of a call: what each is of, and the most that it may be.
-use Rattle.std.specs.Prelude.{ℕ, ◌-◌, ◌^◌, List, [], ◌∷◌, slice_index_or}
+use Rattle.std.specs.Prelude.{ℕ, ◌-◌, ◌^◌, List, slice_index_or}
 use Rattle.mutator.specs.declared.number.Number.{Number}
 use Rattle.mutator.specs.declared.number.Number.TheVariants.{Slot, Place, WordIndex, Size, Value}
-use Rattle.mutator.specs.declared.number.Numbers.{Numbers}
-use Rattle.mutator.specs.declared.number.Numbers.TheVariants.{Zero, One, Two, Three}
 
 abbrev pub value : Number → ℕ
 value (Slot n) = n
@@ -36,12 +34,6 @@ index (WordIndex n) = n
 index (Size n) = n
 index (Value n) = 0
 
--- as a list, and what stands at a place of it
-abbrev pub listed : Numbers → List Number
-listed Zero = []
-listed (One a) = a ∷ []
-listed (Two a b) = a ∷ b ∷ []
-listed (Three a b c) = a ∷ b ∷ c ∷ []
-
+-- what stands at a place of a list
 abbrev pub at : List Number → ℕ → Number
 at ns i = slice_index_or ns i (Value 0)

@@ -4,7 +4,7 @@ ghost use Rattle.mutator.specs.Examples.{WorkedScripts};
 ghost use Rattle.mutator.specs.TableLaws.{TableHolds};
 
 // Alike worlds answer every script alike: no mutator tells them apart.
-// The signature was given to the project: it answers a number that says nothing.
+// The number that it answers says nothing; the signature is part of the interface.
 pub fn alike_answers() -> u8
     ensures { AlikeAnswers }
 {

@@ -1,6 +1,7 @@
 // The numbers of a call: what each is, and how many there are.
 ghost use Rattle.std.specs.Prelude.{◌≡◌, ◌≤◌};
-ghost use Rattle.mutator.specs.Numbers.{value as value_of, most as most_of, like, listed, at, index as index_of};
+ghost use Rattle.mutator.specs.Numbers.{value as value_of, most as most_of, like, at, index as index_of};
+ghost use Rattle.mutator.specs.Listed.{listed};
 
 // A number of a call, by what it is of.
 #[derive(Clone, Copy, PartialEq, Eq, Debug)]

@@ -1,8 +1,7 @@
 // The table of calls: what each is called, what its numbers are, and the call that is made of its numbers.
 ghost use Rattle.std.specs.Prelude.{◌≡◌};
-ghost use Rattle.mutator.specs.Numbers.{listed};
+ghost use Rattle.mutator.specs.Listed.{listed, Lists};
 ghost use Rattle.mutator.specs.Table.{call_at, calls, entry as entry_of};
-ghost use Rattle.mutator.specs.Listed.{Lists};
 
 use crate::Ask;
 use crate::number::Number::{Place, Size, Slot, Value, WordIndex};

@@ -18,11 +18,11 @@ pub extern "C" fn pagzimul_fits(words: &[u64], slots: u64) -> bool
     slots < 65536 && words.len() < ADDRESSES && OWN + slots as usize <= words.len()
 }
 
-// What a piece of work gave, and how many words it touched.
+// What a piece of work gave, and how many words it touched. Other modules come to what was given by `within` alone.
 #[derive(Clone, Copy)]
 pub struct Counted<T> {
-    pub given: T,
-    pub touched: u64,
+    given: T,
+    touched: u64,
 }
 
 impl<T: Copy> Counted<T> {

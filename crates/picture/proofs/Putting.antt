@@ -12,7 +12,8 @@ use Rattle.store.specs.declared.cursor.Objects.{Objects}
 use Rattle.store.specs.declared.manager.Manager.{Manager}
 use Rattle.store.specs.declared.objects.Object.{Object}
 use Rattle.store.specs.Cursor.{Passes}
-use Rattle.store.specs.Frame.{Looks, Touches, TouchesAtMost}
+use Rattle.store.specs.Frame.{Touches, TouchesAtMost}
+use Rattle.store.specs.Accesses.{Looks}
 use Rattle.store.proofs.Framing.{looked}
 use Rattle.picture.specs.declared.spot.Spot.{Spot}
 use Rattle.picture.specs.Spots.{cell_of}

@@ -5,7 +5,8 @@ use Rattle.layout.specs.Cells.{Cell, base, free_of, layout}
 use Rattle.layout.specs.Sound.{ends}
 use Rattle.layout.specs.Marks.{marked_at}
 use Rattle.store.specs.declared.manager.Manager.{Manager}
-use Rattle.store.specs.Frame.{Looks, TouchesAtMost}
+use Rattle.store.specs.Frame.{TouchesAtMost}
+use Rattle.store.specs.Accesses.{Looks}
 use Rattle.picture.specs.declared.spot.Spot.{Spot}
 use Rattle.picture.specs.Spots.{cell_of}
 

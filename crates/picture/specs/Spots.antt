@@ -1,6 +1,7 @@
 -- What stands at each word of a row behind the manager's own.
 use Rattle.std.specs.Prelude.{ℕ, suc, ◌+◌, ◌-◌, Bool, List, [], ◌∷◌, ◌++◌, map, length, replicate, if◌then◌else◌}
-use Rattle.words.specs.Reference.{address_of, target_at}
+use Rattle.words.specs.Reference.{address_of}
+use Rattle.words.specs.Packing.{target_at}
 use Rattle.world.specs.Base.{has}
 use Rattle.world.specs.World.{reached}
 use Rattle.layout.specs.Cells.{Cell, free_of, layout, seg, world_of}

@@ -7,7 +7,7 @@ use crate::spot::Spot;
 use crate::survey::survey;
 use collector::collect;
 use heap::play_on;
-use mutator::{Ask, Told};
+use mutator::Ask;
 use std::alloc::{AllocError, Global};
 use store::{Manager, fits, start};
 use words::Words;
@@ -70,9 +70,9 @@ impl Moment<'_> {
             return Err(Unseen::TooFewWords);
         }
         start(&mut m);
-        // The facade's loop; what is answered is not shown.
-        let mut told = vec![in heap; Told { code: 0, val: 0 }; self.calls.len()]?;
-        play_on(self.calls, &mut m, true, told.as_mut_slice());
+        // The facade's loop; what is answered is not shown, and is not kept.
+        let mut none = vec![in heap; (); self.calls.len()]?;
+        play_on(self.calls, &mut m, true, none.as_mut_slice());
         m.words.count = 0;
         sweep(&mut m, self.collected);
         let spots = survey(&mut m, heap)?;

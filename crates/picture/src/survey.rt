@@ -3,7 +3,7 @@ ghost use Rattle.std.specs.Prelude.{◌≡◌, ◌+◌, ◌-◌, ◌≤◌, not,
 ghost use Rattle.layout.specs.Cells.{base, cell, free_of, layout, seg};
 ghost use Rattle.words.specs.Kinds.{place_count, weight, word_count};
 ghost use Rattle.store.specs.Frame.{IsOpenFor, IsReady};
-ghost use Rattle.store.specs.Ready.{word_at};
+ghost use Rattle.store.specs.Lies.{word_at};
 ghost use Rattle.picture.specs.Puts.{Ends, Puts, marked_objects};
 ghost use Rattle.picture.specs.Spots.{cell_of, free_words, place_of, slots_of, spots, word_of};
 

@@ -1,6 +1,6 @@
 // The numbers of a line, from the left to the end.
 ghost use Rattle.std.specs.Prelude.{◌≡◌, ◌≤◌, [], IfOk, Ok};
-ghost use Rattle.mutator.specs.Numbers.{listed};
+ghost use Rattle.mutator.specs.Listed.{listed};
 ghost use Rattle.script.specs.Tokens.{tokens};
 ghost use Rattle.script.specs.Reading.{bind, next, next_like, ended as ended_of, reads, seen};
 

@@ -2,7 +2,8 @@
 use Rattle.std.proofs.Common.{◌≡◌, ℕ, zero, suc, ◌+◌, ◌-◌, ◌*◌, ◌<◌, ◌≤◌, List, [], ◌∷◌, length, get_or, ap, ◌∙◌, inl, inr, arith}
 use Rattle.words.specs.declared.header.Header.{Header}
 use Rattle.words.specs.Header.{unpacked}
-use Rattle.words.specs.Kinds.{weight, references, place_count, word_count, place_count_of, word_count_of}
+use Rattle.words.specs.Kinds.{weight, place_count, word_count, place_count_of, word_count_of}
+use Rattle.words.specs.Edges.{references}
 use Rattle.std.proofs.lemmas.Bool.{lt-ltb, le-ltb, cases_lt}
 use Rattle.layout.specs.Map.{base, free_of}
 use Rattle.layout.specs.Cells.{Cell, cell, span, cells, layout}

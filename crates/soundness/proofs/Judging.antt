@@ -1,7 +1,8 @@
 -- One word or one object more is judged, and what is then left to judge.
 use Rattle.std.proofs.Common.{◌≡◌, ℕ, ◌+◌, ◌-◌, ◌<◌, ◌≤◌, Bool, true, false, ◌&&◌, List, get_or, sym, ap, ◌∙◌, arith}
 use Rattle.words.specs.declared.header.Header.{Header}
-use Rattle.words.specs.Kinds.{weight, references, well_formed, is_well_formed}
+use Rattle.words.specs.Kinds.{weight, well_formed, is_well_formed}
+use Rattle.words.specs.Edges.{references}
 use Rattle.layout.specs.Cells.{cell, seg}
 use Rattle.layout.specs.Sound.{all_of, ends}
 use Rattle.layout.proofs.Rests.{rest, rest_within, ends_step, part_step, all_step}

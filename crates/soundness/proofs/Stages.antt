@@ -7,7 +7,8 @@ use Rattle.layout.specs.Cells.{layout}
 use Rattle.layout.specs.Sound.{all_of, ends}
 use Rattle.store.specs.declared.manager.Manager.{Manager}
 use Rattle.store.specs.Open.{Open}
-use Rattle.store.specs.Frame.{Frame, Looks}
+use Rattle.store.specs.Frame.{Frame}
+use Rattle.store.specs.Accesses.{Looks}
 use Rattle.store.proofs.Framing.{looked}
 use Rattle.soundness.specs.Walkable.{Walkable, Tiling, objects}
 use Rattle.soundness.specs.Stamps.{DiffersInMarks, stamped, header_ok, all_refer}

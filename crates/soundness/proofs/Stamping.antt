@@ -3,7 +3,8 @@ use Rattle.std.proofs.Common.{◌≡◌, ℕ, zero, suc, ◌+◌, ◌<◌, ◌�
 use mathlib.Core.Option.{some}
 use Rattle.std.proofs.lemmas.List.{length-set, get_or-set_same, get_or-set_other, ext_get_or}
 use Rattle.words.specs.declared.header.Header.{Header}
-use Rattle.words.specs.Header.{mark_of, packed, unpacked, with_mark}
+use Rattle.words.specs.Header.{mark_of, unpacked}
+use Rattle.words.specs.Packing.{packed, with_mark}
 use Rattle.words.specs.Kinds.{place_count_of, word_count_of}
 use Rattle.words.proofs.KindLaws.{well_formed_mark}
 use Rattle.world.specs.Base.{nth}

@@ -1,6 +1,7 @@
 -- Stamps: a number that every header has as its mark for a while, and what then answers to it.
 use Rattle.std.specs.Prelude.{◌≡◌, ℕ, Bool, ◌&&◌, ◌||◌, List, [], ◌∷◌, ◌+◌, ◌==◌, nat_lt, slice_index, slice_set}
-use Rattle.words.specs.Header.{mark_of, packed, unpacked, with_mark}
+use Rattle.words.specs.Header.{mark_of, unpacked}
+use Rattle.words.specs.Packing.{packed, with_mark}
 use Rattle.words.specs.Kinds.{is_well_formed}
 use Rattle.words.specs.Reference.{address_of, tag_of}
 use Rattle.layout.specs.Map.{slots_at}

@@ -7,7 +7,8 @@ ghost use Rattle.layout.specs.Sound.{all_of, ends, none_header, root_header, sou
 ghost use Rattle.soundness.specs.Costs.{verdict_cost};
 ghost use Rattle.soundness.specs.Stamps.{header_ok};
 ghost use Rattle.soundness.specs.Walkable.{IsWalkable, MayTouch, objects};
-ghost use Rattle.store.specs.Frame.{IsOpenFor, Looks, TouchesAtMost};
+ghost use Rattle.store.specs.Frame.{IsOpenFor, TouchesAtMost};
+ghost use Rattle.store.specs.Accesses.{Looks};
 
 mod references;
 

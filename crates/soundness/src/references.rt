@@ -6,7 +6,8 @@ ghost use Rattle.layout.specs.Sound.{all_of, ends};
 ghost use Rattle.soundness.specs.Costs.{answer_cost, places_in};
 ghost use Rattle.soundness.specs.Stamps.{DiffersInMarks, all_answer, all_refer, answers, header_ok, object_answers, stamped};
 ghost use Rattle.soundness.specs.Walkable.{IsTiled, IsWalkable, MayTouch, objects};
-ghost use Rattle.store.specs.Frame.{Frame, Looks, Touches, TouchesAtMost};
+ghost use Rattle.store.specs.Frame.{Frame, Touches, TouchesAtMost};
+ghost use Rattle.store.specs.Accesses.{Looks};
 
 use store::{Manager, OWN, Object, Objects};
 use words::Words;
@@ -105,7 +106,7 @@ fn are_references<W: Words>(
     ensures looks { Looks W.Words m.old m.new }
     ensures touches { TouchesAtMost (2 * count) W.Words m.old m.new }
 {
-    // Tried with `all`: what is_reference asks stays open, since nothing is known of words that such a closure has touched.
+    // Not with `all`: nothing is known of words that its closure has touched, and so not what is_reference asks.
     for i in 0..count {
         if !is_reference(m, free, from + i, mark) {
             return false;

@@ -2,5 +2,6 @@
 pub mod Header
 pub mod Kinds
 pub mod Reference
+pub mod Packing
 pub mod Past
 pub mod Edges

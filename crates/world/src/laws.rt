@@ -2,7 +2,7 @@
 ghost use Rattle.world.specs.Laws.{AlikeWeighs, AlikeEquivalence, ReachedClosed, WeightByMembers};
 
 // Alike worlds weigh the same, so that they are full at the same calls.
-// The signature was given to the project: it answers a number that says nothing.
+// The number that it answers says nothing; the signature is part of the interface.
 pub fn alike_weighs() -> u8
     ensures { AlikeWeighs }
 {

@@ -4,7 +4,7 @@ use Rattle.layout.specs.Map.{base}
 use Rattle.layout.specs.Cells.{layout}
 use Rattle.layout.specs.Sound.{all_of, ends}
 use Rattle.layout.proofs.Rests.{rest}
-use Rattle.store.specs.Frame.{Looks}
+use Rattle.store.specs.Accesses.{Looks}
 use Rattle.soundness.specs.Stamps.{header_ok}
 use Rattle.soundness.proofs.tiles.Given as goal
 

@@ -1,6 +1,7 @@
 -- One slot more is put.
 use Rattle.std.proofs.Common.{ℕ, ◌+◌, List, get_or, ap, ◌∙◌}
-use Rattle.words.specs.Reference.{address_of, target_at}
+use Rattle.words.specs.Reference.{address_of}
+use Rattle.words.specs.Packing.{target_at}
 use Rattle.picture.specs.declared.spot.Spot.TheVariants.{Slot}
 use Rattle.picture.specs.Spots.{slot_of}
 use Rattle.picture.proofs.Putting.{put_more, seg_more}

@@ -3,7 +3,7 @@ use Rattle.std.proofs.Common.{[], Ok, Err, sym, refl, ap, ◌∙◌, arith}
 use Rattle.std.specs.Str.{bytes_eq}
 use Rattle.std.specs.Option.{ok_or}
 use Rattle.std.proofs.lemmas.Result.{err_from_is_err_and}
-use Rattle.mutator.specs.Numbers.{listed}
+use Rattle.mutator.specs.Listed.{listed}
 use Rattle.script.specs.declared.error.LineError.TheVariants.{UnknownCall}
 use Rattle.script.specs.Tokens.{tokens}
 use Rattle.script.specs.Reading.{bind, reads}

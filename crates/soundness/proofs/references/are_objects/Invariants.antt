@@ -3,7 +3,7 @@ use Rattle.std.proofs.Common.{◌≡◌, ◌+◌, ◌-◌, ◌*◌, ◌≤◌, t
 use Rattle.layout.specs.Cells.{layout}
 use Rattle.layout.specs.Sound.{all_of, ends}
 use Rattle.layout.proofs.Rests.{rest}
-use Rattle.store.specs.Frame.{Looks}
+use Rattle.store.specs.Accesses.{Looks}
 use Rattle.soundness.specs.Stamps.{object_answers}
 use Rattle.soundness.specs.Costs.{places_in}
 use Rattle.soundness.proofs.references.are_objects.Given as goal

@@ -2,7 +2,8 @@
 use Rattle.std.proofs.Common.{◌≡◌, ◌+◌, ◌-◌, ◌*◌}
 use Rattle.layout.specs.Cells.{seg}
 use Rattle.layout.specs.Sound.{all_of}
-use Rattle.store.specs.Frame.{Looks, TouchesAtMost}
+use Rattle.store.specs.Frame.{TouchesAtMost}
+use Rattle.store.specs.Accesses.{Looks}
 use Rattle.soundness.specs.Stamps.{answers}
 use Rattle.soundness.proofs.references.are_references.Given as goal
 
