@@ -1,7 +1,7 @@
 // Each call printed and read back, and each refusal once.
+use mutator::Ask;
 use script::{CallText, LineError, read_line, read_opening};
 use std::test::Fail;
-use mutator::Ask;
 
 #[test]
 fn calls_come_back(rt: HostRuntime) -> Result<(), Fail> {
@@ -26,7 +26,10 @@ fn calls_come_back(rt: HostRuntime) -> Result<(), Fail> {
 
 #[test]
 fn blanks_and_zeros_are_allowed(rt: HostRuntime) {
-    assert_eq!(rt; read_line("\t New  0 002\t1 \r"), Ok(Some(Ask::New(0, 2, 1))));
+    assert_eq!(rt;
+        read_line("\t New  0 002\t1 \r"),
+        Ok(Some(Ask::New(0, 2, 1)))
+    );
     assert_eq!(rt; read_line("# New"), Ok(None));
     assert_eq!(rt; read_line(" \t\r"), Ok(None));
     assert_eq!(rt; read_line("New"), Err(LineError::TooFewNumbers));
@@ -38,7 +41,10 @@ fn refusals(rt: HostRuntime) {
     assert_eq!(rt; read_line("Copy 1"), Err(LineError::TooFewNumbers));
     assert_eq!(rt; read_line("Collect 0"), Err(LineError::TooManyNumbers));
     assert_eq!(rt; read_line("Clear +1"), Err(LineError::NotANumber));
-    assert_eq!(rt; read_line("Clear 65536"), Err(LineError::NumberTooLarge(65_535)));
+    assert_eq!(rt;
+        read_line("Clear 65536"),
+        Err(LineError::NumberTooLarge(65_535))
+    );
     assert_eq!(rt;
         read_line("Write 0 3 18446744073709551616"),
         Err(LineError::NumberTooLarge(u64::MAX))

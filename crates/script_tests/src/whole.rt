@@ -2,10 +2,10 @@
 ghost use Rattle.driver.specs.Playing.{Answered};
 
 use driver::{Fault, Script, print_answers, read_script};
-use std::alloc::{AllocError, Global};
-use std::test::Fail;
 use mutator::Told;
 use reference::PlainWorld;
+use std::alloc::{AllocError, Global};
+use std::test::Fail;
 use world::room_for;
 
 fn answer(heap: Global, script: &Script) -> Result<Vec<Told>, AllocError>
