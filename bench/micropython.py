@@ -4,7 +4,8 @@ import os
 import shutil
 import subprocess
 
-# A suite of Debian that has the package; apt gets lists of its own, so that nothing of the machine's is changed.
+# A suite of Debian that has the package, from the mirror that this machine has; apt gets lists of its own, so that nothing of
+# the machine's is changed.
 SUITE = 'trixie'
 SOURCES = ('Types: deb-src\nURIs: {}\nSuites: {}\nComponents: main\n'
            'Signed-By: /usr/share/keyrings/debian-archive-keyring.gpg\n')
@@ -42,6 +43,15 @@ def write(path, text):
         out.write(text)
 
 
+# Where this machine gets Debian's packages from.
+def mirror():
+    asked = ['apt-get', 'indextargets', '--format', '$(REPO_URI)', 'Created-By: Packages']
+    found = subprocess.run(asked, capture_output=True, text=True).stdout.split()
+    if not found:
+        raise Missing('apt-get has no mirror')
+    return found[0]
+
+
 # The folder of the sources; None if they were not fetched yet.
 def unpacked(folder):
     found = glob.glob(os.path.join(folder, 'micropython-*', 'py', 'gc.c'))
@@ -54,7 +64,7 @@ def fetch(folder):
     if shutil.which('apt-get') is None or shutil.which('dpkg-source') is None:
         raise Missing('apt-get or dpkg-source is not there')
     sources, lists = os.path.join(folder, 'debian.sources'), os.path.join(folder, 'lists')
-    write(sources, SOURCES.format(SUITE))
+    write(sources, SOURCES.format(mirror(), SUITE))
     os.makedirs(os.path.join(lists, 'partial'), exist_ok=True)
     own = ['-o', f'Dir::Etc::sourcelist={sources}', '-o', 'Dir::Etc::sourceparts=/dev/null', '-o', f'Dir::State::lists={lists}',
            '-o', 'Dir::Cache::pkgcache=', '-o', 'Dir::Cache::srcpkgcache=', '-o', 'APT::Sandbox::User=root']
