@@ -14,8 +14,8 @@
  * named by the slots that hold them, never by where they lie: a collection moves them, so no address inside of the
  * words may be kept. What no slot comes to, from place to place, is taken back when room is wanted.
  *
- * An object weighs two words, and one for each of its places and words. What of the words can hold objects is
- * count - 64 - slots, to the last word.
+ * An object weighs two words, and one for each of its places and words; the world's weight is that of what is reached.
+ * What of the words can hold objects, to the last word, is the room: count - 64 - slots.
  *
  * What is asked of the caller, and checked by nothing here:
  *   - `words` points to `count` words that nobody else reads or writes during a call, and that may be written but for
@@ -70,7 +70,8 @@ bool pagzimul_is_sound(uint64_t *words, size_t count, uint64_t slots);
 
 /* The calls. calls: begin (scripts/print-calls) */
 /* New: an object with r places and n words, in slot s. Full exactly if the world's weight and 2 + r + n are more than
- * the room; what stood in s counts, too. FULL, DONE, NO_SLOT, NO_PLACE if r or n is 65,536 or more. */
+ * the room; then nothing has changed that the mutator can tell. What stood in s counts, too. It may collect. FULL,
+ * DONE, NO_SLOT, NO_PLACE if r or n is 65,536 or more. */
 pagzimul_told pagzimul_new(uint64_t *words, size_t count, uint64_t slots, uint64_t s, uint64_t r, uint64_t n);
 
 /* Get: slot t becomes place i of the object in s. DONE, NO_SLOT, NOTHING, NO_PLACE. */

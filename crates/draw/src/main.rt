@@ -131,13 +131,14 @@ fn print(out: &mut BufWriter<Stdout>, title: Wanted, spots: &[Spot]) -> io::Resu
 // A fault behind the wanted call is said when the picture is printed.
 fn run(rt: &HostRuntime) -> Result<(), Failure> {
     let wanted = Wanted::read(rt)?;
-    let Script { size, calls, end } = read_script(rt.alloc(), open_input(rt)?)?;
+    let input = open_input(rt)?;
+    let mut out = open_output(rt)?;
+    let Script { size, calls, end } = read_script(rt.alloc(), input)?;
     let Some(calls) = calls.as_slice().get(..wanted.calls) else {
         end?;
         return Err(Failure::TooFewCalls(wanted.calls, calls.len()));
     };
     let spots = look(rt.alloc(), size, calls, wanted.collected)?;
-    let mut out = open_output(rt)?;
     print(&mut out, wanted, spots.as_slice()).map_err(Failure::Unwritten)?;
     end?;
     Ok(())

@@ -21,7 +21,7 @@ abbrev pub call : List ℕ → List Number → ℕ → Result ℕ Refusal → En
 call n ns k r = record { name = n; numbers = ns; asks = k; empty = r }
 
 abbrev pub entry : Ask → Entry
--- 0 1 2: an object with r places and n words, in slot s. Full exactly if the world's weight and `2 + r + n` are more than the room; what stood in s counts, too
+-- 0 1 2: an object with r places and n words, in slot s. Full exactly if the world's weight and `2 + r + n` are more than the room; then nothing has changed that the mutator can tell. What stood in s counts, too. It may collect
 entry (New s r n) = call (codes "New") (Slot s ∷ Size r ∷ Size n ∷ []) (2 + (r + n)) (Err Full)
 -- 1 2 3 4: slot t becomes place i of the object in s
 entry (Get t s i) = call (codes "Get") (Slot t ∷ Slot s ∷ Place i ∷ []) 0 (Err Nothing)

@@ -22,7 +22,8 @@ pub struct Entry {
 pub const CALLS: usize = 10;
 
 impl Ask {
-    // What the table says of the call.
+    // What the table says of the call. Compiled into its callers, of which most want one part of it.
+    #[inline(always)]
     pub fn entry(&self) -> Entry
         ensures { Lists result (entry_of self.now) }
     {
@@ -49,7 +50,9 @@ impl Ask {
         }
     }
 
-    // The call at a place of the table, of these numbers; the kinds of its numbers are the same for all of them.
+    // The call at a place of the table, of these numbers; the kinds of its numbers are the same for all of them. Compiled into
+    // its callers: a search by name makes ten calls without numbers.
+    #[inline(always)]
     pub fn made(place: usize, ns: Numbers) -> Option<Ask>
         ensures { result ≡ call_at calls place (listed ns) }
     {

@@ -2,6 +2,7 @@
 pub mod Cuts
 pub mod Values
 pub mod Bodies
+pub mod Naming
+pub mod Lines
 pub mod Spelt
 pub mod Printed
-pub mod Naming

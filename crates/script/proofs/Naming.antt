@@ -1,7 +1,9 @@
 -- The table gone over for a name, place by place.
-use Rattle.std.proofs.Common.{◌≡◌, ℕ, zero, suc, ◌+◌, ◌≤◌, true, false, List, [], ◌∷◌, drop, length, Some, None, Option, Ok, Err, Result, sym, refl, ap, ◌∙◌, add-one, arith}
+use Rattle.std.proofs.Common.{◌≡◌, ℕ, zero, suc, ◌+◌, ◌≤◌, Bool, true, false, ◌&&◌, List, [], ◌∷◌, drop, length, Some, None, Option, Ok, Err, Result, sym, subst, refl, ap, ◌∙◌, add-one, arith}
 use Rattle.std.specs.Str.{bytes_eq}
 use Rattle.std.specs.Option.{ok_or}
+use Rattle.std.proofs.lemmas.Slice.Eq.{bytes_eq-Decides}
+use Rattle.std.proofs.lemmas.Bool.{and_parts}
 use Rattle.mutator.specs.declared.Ask.{Ask}
 use Rattle.mutator.specs.declared.number.Number.{Number}
 use Rattle.mutator.specs.Table.{name, numbers, calls, named, call_at}
@@ -70,3 +72,16 @@ past (f ∷ fs) (suc p) l = past fs p (omega arith)
 
 pub called_past : (n : List ℕ) (p : ℕ) (ts : List (List ℕ)) → Passed n p → length calls ≤ p → Err UnknownCall ≡ called n ts
 called_past n p ts h l = called_none n p ts h (past calls p l)
+
+-- what each name of the table passes, a name that is found passes
+abbrev pub all_names : (List ℕ → Bool) → List (List Number → Ask) → Bool
+all_names p [] = true
+all_names p (f ∷ fs) = p (name (f [])) && all_names p fs
+
+pub named_passes : (p : List ℕ → Bool) (n : List ℕ) (fs : List (List Number → Ask)) (f : List Number → Ask) → all_names p fs ≡ true → named n fs ≡ Some f → p n ≡ true
+named_passes p n [] f s h = let o : ◌≡◌ {A = ℕ} 0 1 = cc in absurd (omega arith)
+named_passes p n (g ∷ gs) f s h = by_test (bytes_eq n (name (g []))) refl (named_passes p n gs f (and_parts (p (name (g []))) (all_names p gs) s).1)
+  where
+    by_test : (t : Bool) → bytes_eq n (name (g [])) ≡ t → (named n gs ≡ Some f → p n ≡ true) → p n ≡ true
+    by_test false e ih = ih (rw e at h)
+    by_test true e ih = subst (λ (m : List ℕ). p m ≡ true) (sym ((bytes_eq-Decides n (name (g []))).0 e)) (and_parts (p (name (g []))) (all_names p gs) s).0

@@ -1,22 +1,22 @@
 -- What is printed of a call is read as that call.
-use Rattle.std.proofs.Common.{◌≡◌, ℕ, zero, suc, ◌^◌, ◌<◌, Bool, true, false, not, ◌&&◌, eqb, ltb, leb, List, [], ◌∷◌, ◌++◌, map, length, decimal, Some, sym, subst, refl, ap, ◌∙◌, arith}
+use Rattle.std.proofs.Common.{◌≡◌, ℕ, zero, suc, ◌^◌, ◌<◌, Bool, true, false, not, ◌&&◌, eqb, ltb, leb, List, [], ◌∷◌, ◌++◌, map, length, decimal, refl, ap, ◌∙◌, arith}
 use Rattle.std.specs.Char.{is_ascii_digit}
-use Rattle.std.specs.Str.{all_ascii_digits, bytes_eq}
-use Rattle.std.proofs.lemmas.Slice.Eq.{bytes_eq-Decides}
+use Rattle.std.specs.Str.{all_ascii_digits}
 use Rattle.std.proofs.lemmas.Fmt.{digits_decimal, digits_value-decimal, decimal_nonempty}
 use Rattle.std.proofs.lemmas.Bool.{and_parts, and_from, leb-true, lt-ltb, ltb-true, ne_eqb, or_from, not-true, not_from_false}
 use Rattle.mutator.specs.declared.Ask.{Ask}
 use Rattle.mutator.specs.declared.number.Number.{Number}
 use Rattle.mutator.specs.Numbers.{value}
-use Rattle.mutator.specs.Table.{name, numbers, calls, named}
+use Rattle.mutator.specs.Table.{name, numbers, calls}
 use Rattle.mutator.proofs.Listing.{found, most_small}
 use Rattle.script.specs.Text.{spaced, call_text}
 use Rattle.script.specs.Tokens.{blank, pieces, filled, tokens}
 use Rattle.script.specs.Reading.{body}
-use Rattle.script.specs.Spelling.{WriteAll, AllWithin, ReadsBack}
+use Rattle.script.specs.Spelling.{WriteAll, AllWithin, Fits, Spells, ReadsBack}
 use Rattle.script.proofs.Cuts.{Dense, filled_some, word_first}
 use Rattle.script.proofs.Values.{own}
-use Rattle.script.proofs.Spelt.{reads_what_is_spelt}
+use Rattle.script.proofs.Naming.{named_passes}
+use Rattle.script.proofs.Spelt.{reads_what_is_spelt, reads_lines}
 
 -- bytes that can be seen: no blank and no carriage return
 abbrev graphic : List ℕ → Bool
@@ -83,20 +83,14 @@ body_plain (c ∷ []) p = let e = not-true (eqb c 13) (and_parts (not (eqb c 13)
 body_plain (c ∷ d ∷ ds) p = ap (λ (l : List ℕ). c ∷ l) (body_plain (d ∷ ds) (and_parts (not (eqb c 13)) (plain (d ∷ ds)) p).1)
 
 -- each name of the table can be seen
-abbrev seen_names : List (List Number → Ask) → Bool
-seen_names [] = true
-seen_names (f ∷ fs) = ltb 0 (length (name (f []))) && (graphic (name (f [])) && seen_names fs)
+abbrev visible : List ℕ → Bool
+visible m = ltb 0 (length m) && graphic m
 
-seen_named : (n : List ℕ) (fs : List (List Number → Ask)) (f : List Number → Ask) → seen_names fs ≡ true → named n fs ≡ Some f → (graphic n ≡ true) × (0 < length n)
-seen_named n [] f s h = let o : ◌≡◌ {A = ℕ} 0 1 = cc in absurd (omega arith)
-seen_named n (g ∷ gs) f s h = by_test (bytes_eq n (name (g []))) refl (seen_named n gs f (and_parts (graphic (name (g []))) (seen_names gs) (and_parts (ltb 0 (length (name (g [])))) _ s).1).1)
-  where
-    by_test : (t : Bool) → bytes_eq n (name (g [])) ≡ t → (named n gs ≡ Some f → (graphic n ≡ true) × (0 < length n)) → (graphic n ≡ true) × (0 < length n)
-    by_test false e ih = ih (rw e at h)
-    by_test true e ih =
-        let p = and_parts (ltb 0 (length (name (g [])))) (graphic (name (g [])) && seen_names gs) s in
-        subst (λ (m : List ℕ). (graphic m ≡ true) × (0 < length m)) (sym ((bytes_eq-Decides n (name (g []))).0 e))
-        ((and_parts (graphic (name (g []))) (seen_names gs) p.1).0, ltb-true 0 (length (name (g []))) p.0)
+seen_named : (q : Ask) → (graphic (name q) ≡ true) × (0 < length (name q))
+seen_named q =
+    let t = found q in
+    let p = and_parts (ltb 0 (length (name q))) (graphic (name q)) (named_passes visible (name q) calls t.make refl t.is) in
+    (p.1, ltb-true 0 (length (name q)) p.0)
 
 all_small : (ns : List Number) → AllWithin ns → Small (map value ns)
 all_small [] w = tt
@@ -108,14 +102,16 @@ text_tokens m ns g l s =
     ∙ ap filled (word_first m (spaced ns) (map decimal ns) (dense_graphic m g) (pieces_spaced ns s))
     ∙ filled_some m (map decimal ns) l ∙ ap (λ (t : List (List ℕ)). m ∷ t) (filled_decimals ns s)
 
-pub reads_back : ReadsBack
-reads_back q w =
-    let t = found q in
-    let s = seen_named (name q) calls t.make refl t.is in
+spelt_back : (q : Ask) → Fits q → Spells (call_text q) q
+spelt_back q w =
+    let s = seen_named q in
     let small = all_small (numbers q) w in
-    (reads_what_is_spelt (call_text q) q).1 (record {
+    record {
       rest = map decimal (map value (numbers q));
       named = text_tokens (name q) (map value (numbers q)) s.0 s.1 small;
       written = decimals_written (map value (numbers q)) small;
       fits = w;
-    })
+    }
+
+pub reads_back : ReadsBack
+reads_back q w = let s = spelt_back q w in ((reads_what_is_spelt (call_text q) q).1 s, (reads_lines (call_text q) q).1 s)

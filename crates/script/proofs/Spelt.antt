@@ -1,9 +1,10 @@
 -- A line is read as a call just if it spells that call.
-use Rattle.std.proofs.Common.{◌≡◌, ℕ, suc, ◌-◌, ◌^◌, ◌<◌, ◌≤◌, Bool, true, false, leb, List, [], ◌∷◌, ◌++◌, map, length, Some, None, Option, Ok, Err, Result, sym, refl, ap, ap₂, ◌∙◌, subst, append_assoc, append-nil, arith}
+use Rattle.std.proofs.Common.{◌≡◌, ℕ, suc, ◌-◌, ◌^◌, ◌<◌, ◌≤◌, Bool, true, false, not, eqb, leb, slice_index, List, [], ◌∷◌, ◌++◌, map, length, Some, None, Option, Ok, Err, Result, sym, refl, ap, ap₂, ◌∙◌, subst, append_assoc, append-nil, arith}
 use lib.ListN.{length-map}
 use Rattle.std.specs.Str.{all_ascii_digits, bytes_eq}
 use Rattle.std.proofs.lemmas.Slice.Eq.{bytes_eq-Decides}
-use Rattle.std.proofs.lemmas.Bool.{leb-true, le-leb}
+use Rattle.std.specs.Char.{is_ascii_digit}
+use Rattle.std.proofs.lemmas.Bool.{leb-true, le-leb, not-true, and_parts, ne_eqb}
 use Rattle.mutator.specs.declared.Ask.{Ask}
 use Rattle.mutator.specs.declared.number.Number.{Number}
 use Rattle.mutator.specs.Numbers.{value, most, like}
@@ -15,8 +16,10 @@ use Rattle.script.specs.declared.error.LineError.TheVariants.{UnknownCall, TooFe
 use Rattle.script.specs.declared.read.HeapSize.{HeapSize}
 use Rattle.script.specs.Tokens.{tokens}
 use Rattle.script.specs.Numbers.{value as written, number}
-use Rattle.script.specs.Reading.{bind, next, ended, reads, made_of, called, reading, body, heap_size, sized}
-use Rattle.script.specs.Spelling.{WriteAll, AllWithin, Fits, Spells, ReadsWhatIsSpelt, ReadsSizeThatIsSpelt}
+use Rattle.script.specs.Reading.{bind, next, ended, reads, made_of, called, reading, body, call_of, heap_size, heap_size_of, sized, passed_over}
+use Rattle.script.specs.Spelling.{WriteAll, AllWithin, Fits, Spells, ReadsWhatIsSpelt, ReadsLines, ReadsSizeThatIsSpelt, ReadsOpenings}
+use Rattle.script.proofs.Lines.{met, read_on, read_off}
+use Rattle.script.proofs.Naming.{named_passes}
 
 -- one number
 number_at : (m n : ℕ) (e : LineError) (t : List ℕ) (d s : Bool) → all_ascii_digits t ≡ d → leb (written t) m ≡ s → number m e t ≡ Ok n → (all_ascii_digits t ≡ true) × (written t ≡ n) × (n ≤ m)
@@ -165,6 +168,18 @@ reads_what_is_spelt line q = (
   λ s. ap reading s.named ∙ ok_called s.rest q s.written s.fits,
 )
 
+-- no name begins with `#`
+abbrev starts : List ℕ → Bool
+starts m = not (eqb (slice_index m 0) 35)
+
+pub reads_lines : ReadsLines
+reads_lines line q = (
+  λ e. (reads_what_is_spelt line q).0 (read_off line (call_of line) q e),
+  λ s. let t = found q in
+      let d = not-true _ (named_passes starts (name q) calls t.make refl t.is) in
+      read_on line (call_of line) q (met line (name q) s.rest s.named d) ((reads_what_is_spelt line q).1 s),
+)
+
 -- the first line of a script
 abbrev Sizes : List (List ℕ) → HeapSize → Type 0
 Sizes ts h = WriteAll ts (h.words ∷ h.slots ∷ []) × (h.words < 2 ^ 56) × (h.slots < 65536)
@@ -207,3 +222,20 @@ ok_size (t ∷ u ∷ v ∷ ts) h s = absurd s.0.2.2
 
 pub reads_size_that_is_spelt : ReadsSizeThatIsSpelt
 reads_size_that_is_spelt line h = (size_ok (tokens (body line)) h, ok_size (tokens (body line)) h)
+
+digit_first : (t : List ℕ) → all_ascii_digits t ≡ true → eqb (slice_index t 0) 35 ≡ false
+digit_first [] d = refl
+digit_first (c ∷ cs) d =
+    let p = and_parts (is_ascii_digit c) (all_ascii_digits cs) d in
+    let q = and_parts (leb 48 c) (leb c 57) p.0 in
+    ne_eqb c 35 (λ e. omega (arith, leb-true 48 c q.0))
+
+opens : (line : List ℕ) (us : List (List ℕ)) (h : HeapSize) → tokens (body line) ≡ us → Sizes us h → passed_over line ≡ false
+opens line [] h e s = absurd s.0
+opens line (t ∷ ts) h e s = met line t ts e (digit_first t s.0.0)
+
+pub reads_openings : ReadsOpenings
+reads_openings line h = (
+  λ e. (reads_size_that_is_spelt line h).0 (read_off line (heap_size_of line) h e),
+  λ s. read_on line (heap_size_of line) h (opens line (tokens (body line)) h refl s) ((reads_size_that_is_spelt line h).1 s),
+)

@@ -1,5 +1,5 @@
 -- When a line spells a call, and the theorems on reading, as types.
-use Rattle.std.specs.Prelude.{◌≡◌, ℕ, ◌<◌, ◌≤◌, ◌^◌, true, List, [], ◌∷◌, map, Ok}
+use Rattle.std.specs.Prelude.{◌≡◌, ℕ, ◌<◌, ◌≤◌, ◌^◌, true, List, [], ◌∷◌, map, Some, Ok}
 use Rattle.std.specs.Str.{all_ascii_digits}
 use Rattle.mutator.specs.declared.Ask.{Ask}
 use Rattle.mutator.specs.declared.number.Number.{Number}
@@ -9,7 +9,7 @@ use Rattle.script.specs.declared.read.HeapSize.{HeapSize}
 use Rattle.script.specs.Text.{call_text}
 use Rattle.script.specs.Tokens.{tokens}
 use Rattle.script.specs.Numbers.{value as written}
-use Rattle.script.specs.Reading.{body, call_of, heap_size_of}
+use Rattle.script.specs.Reading.{body, call_of, line_of, heap_size_of, opening_of}
 
 -- each token is digits that come to the number at its place
 abbrev pub WriteAll : List (List ℕ) → List ℕ → Type 0
@@ -39,9 +39,17 @@ ReadsWhatIsSpelt =
     (line : List ℕ) (q : Ask) →
     (call_of line ≡ Ok q → Spells line q) × (Spells line q → call_of line ≡ Ok q)
 
--- what is printed of a call is read as that call
+-- and as a line of a script: what spells a call is never passed over
+abbrev pub ReadsLines : Type 0
+ReadsLines =
+    (line : List ℕ) (q : Ask) →
+    (line_of line ≡ Ok (Some q) → Spells line q) × (Spells line q → line_of line ≡ Ok (Some q))
+
+-- what is printed of a call is read as that call, and as a line of a script
 abbrev pub ReadsBack : Type 0
-ReadsBack = (q : Ask) → Fits q → call_of (call_text q) ≡ Ok q
+ReadsBack =
+    (q : Ask) → Fits q →
+    (call_of (call_text q) ≡ Ok q) × (line_of (call_text q) ≡ Ok (Some q))
 
 -- the same of the first line: its tokens are the number of words and the number of slots
 abbrev pub SpellsSize : List ℕ → HeapSize → Type 0
@@ -52,3 +60,9 @@ abbrev pub ReadsSizeThatIsSpelt : Type 0
 ReadsSizeThatIsSpelt =
     (line : List ℕ) (h : HeapSize) →
     (heap_size_of line ≡ Ok h → SpellsSize line h) × (SpellsSize line h → heap_size_of line ≡ Ok h)
+
+-- and of the line that opens a script
+abbrev pub ReadsOpenings : Type 0
+ReadsOpenings =
+    (line : List ℕ) (h : HeapSize) →
+    (opening_of line ≡ Ok (Some h) → SpellsSize line h) × (SpellsSize line h → opening_of line ≡ Ok (Some h))

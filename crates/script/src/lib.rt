@@ -11,5 +11,7 @@ mod tokens;
 
 pub use error::LineError;
 pub use print::{AnswerText, CallText};
-pub use read::{HeapSize, MOST_WORDS, read_line, read_opening};
+pub use read::{
+    HeapSize, MOST_WORDS, is_passed_over, read_call, read_heap_size, read_line, read_opening,
+};
 pub use theorems::{calls_are_read_back, calls_are_read_exactly, heap_sizes_are_read_exactly};

@@ -1,7 +1,7 @@
 // Lines of a script as calls. A line is taken apart once.
-ghost use Rattle.std.specs.Prelude.{◌≡◌, ◌<◌, ◌∷◌, true, false, length, MatchOption};
+ghost use Rattle.std.specs.Prelude.{◌≡◌, ◌<◌, [], ◌∷◌, true, false, length, MatchOption};
 ghost use Rattle.script.specs.Tokens.{tokens};
-ghost use Rattle.script.specs.Reading.{body as body_of, called, line_of, opening_of, passed_over, sized};
+ghost use Rattle.script.specs.Reading.{body as body_of, call_of, called, heap_size_of, line_of, opening_of, passed_over, sized};
 
 use crate::error::LineError;
 use crate::numbers::number;
@@ -26,6 +26,14 @@ fn body(line: &str) -> &str
     line.strip_suffix('\r').unwrap_or(line)
 }
 
+// The first token of a line and what follows it, unless the line is blank.
+fn split_line(line: &str) -> Option<(&str, &str)>
+    ensures { let ts = tokens (body_of line.now) in
+        MatchOption result (ts ≡ []) (λ p. ts ≡ p.0.now ∷ tokens p.1.now) }
+{
+    split_token(body(line))
+}
+
 // The first token of a line and what follows it, unless the line is blank or a comment.
 fn first_token(line: &str) -> Option<(&str, &str)>
     ensures { MatchOption result (passed_over line.now ≡ true)
@@ -35,7 +43,7 @@ fn first_token(line: &str) -> Option<(&str, &str)>
     if line.starts_with('#') {
         return None;
     }
-    split_token(body(line))
+    split_line(line)
 }
 
 // The call with this name, of the numbers in the rest of its line.
@@ -66,6 +74,33 @@ fn heap_size(words: &str, rest: &str) -> Result<HeapSize, LineError>
     // at most 65,535, so try_from would need an arm that no number takes
     let slots = slots as u16;
     Ok(HeapSize { words, slots })
+}
+
+// Reads a call, as `Write 0 3 18446744073709551615`. A blank line is no call.
+pub fn read_call(line: &str) -> Result<Ask, LineError>
+    ensures { result ≡ call_of line.now }
+{
+    let Some((name, rest)) = split_line(line) else {
+        return Err(LineError::UnknownCall);
+    };
+    named_call(name, rest)
+}
+
+// Reads how many words and slots there are, `WORDS SLOTS`.
+pub fn read_heap_size(line: &str) -> Result<HeapSize, LineError>
+    ensures { result ≡ heap_size_of line.now }
+{
+    let Some((words, rest)) = split_line(line) else {
+        return Err(LineError::TooFewNumbers);
+    };
+    heap_size(words, rest)
+}
+
+// Whether a line is blank or a comment.
+pub fn is_passed_over(line: &str) -> bool
+    ensures { result ≡ passed_over line.now }
+{
+    first_token(line).is_none()
 }
 
 // Reads the first line of a script, `WORDS SLOTS`. It says nothing where it is blank or a comment.

@@ -1,14 +1,16 @@
 // The theorems on reading: each function's contract is one, and the check asks for its proof.
-ghost use Rattle.script.specs.Spelling.{ReadsWhatIsSpelt, ReadsSizeThatIsSpelt, ReadsBack};
+ghost use Rattle.script.specs.Spelling.{ReadsWhatIsSpelt, ReadsLines, ReadsSizeThatIsSpelt, ReadsOpenings, ReadsBack};
 
-// A line is read as the call that it spells, and refused if it spells none.
+// A line is read as the call that it spells, and refused if it spells none; so is each line of a script.
 pub fn calls_are_read_exactly()
-    ensures { ReadsWhatIsSpelt }
+    ensures calls { ReadsWhatIsSpelt }
+    ensures lines { ReadsLines }
 {}
 
 // The same of the first line of a script.
 pub fn heap_sizes_are_read_exactly()
-    ensures { ReadsSizeThatIsSpelt }
+    ensures sizes { ReadsSizeThatIsSpelt }
+    ensures openings { ReadsOpenings }
 {}
 
 // What is printed of a call is read as that call.

@@ -96,14 +96,15 @@ fn print(
 }
 
 fn count_script(rt: &HostRuntime, summary: bool) -> Result<(), Fault> {
-    let Script { size, calls, end } = read_script(rt.alloc(), open_input(rt)?)?;
+    let input = open_input(rt)?;
+    let mut out = open_output(rt)?;
+    let Script { size, calls, end } = read_script(rt.alloc(), input)?;
     let game = Game {
         words: size.words,
         slots: size.slots,
         calls: calls.as_slice(),
     };
     let touches = game.touches(rt.alloc()).map_err(|_| Fault::NoMemory(1))?;
-    let mut out = open_output(rt)?;
     print(&mut out, summary, game.calls, touches.as_slice()).map_err(Fault::Unwritten)?;
     end
 }

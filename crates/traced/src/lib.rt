@@ -1,19 +1,20 @@
 // Words of its own that keep a trace, for tests and measurements.
 #![tactic(auto)]
 
-ghost use Rattle.std.specs.Prelude.{◌≡◌, ℕ, ◌+◌, ◌<◌, [], vec_len, vec_capacity, IfSome, IsSome, IsSomeAnd};
+ghost use Rattle.std.specs.Prelude.{◌≡◌, ℕ, ◌+◌, ◌<◌, [], vec_len, vec_capacity, None, IfSome, IsSome, IsSomeAnd};
 ghost use Rattle.traced.specs.Trace.{Noted};
 
 use std::alloc::Global;
 use words::Words;
 
-// A row of words, how often one was touched, and which, in order and with repeats, so a list; no trace once there was no
-// memory for it.
+// A row of words, how often one was touched, and which, in order and with repeats, so a list; once there was no memory for
+// it there is no trace, but what it was until then.
 #[derive(Drop)]
 pub struct Traced {
     pub words: Vec<u64>,
     pub count: u64,
     pub trace: Option<Vec<usize>>,
+    pub cut: Option<Vec<usize>>,
 }
 
 impl Traced {
@@ -22,11 +23,13 @@ impl Traced {
         ensures row { result.words ≡ words }
         ensures count { result.count ≡ 0 }
         ensures trace { IsSomeAnd result.trace (λ t. t.items ≡ []) }
+        ensures uncut { result.cut ≡ None }
     {
         Traced {
             words,
             count: 0,
             trace: Some(Vec::new(heap)),
+            cut: None,
         }
     }
 
@@ -35,7 +38,7 @@ impl Traced {
         requires { self.old.count < 9223372036854775808 }
         ensures words { self.new.words ≡ self.old.words }
         ensures count { self.new.count ≡ self.old.count + 1 }
-        ensures trace { Noted i self.old.trace self.new.trace }
+        ensures trace { Noted i self.old.trace self.old.cut self.new.trace self.new.cut }
         ensures room { IfSome self.old.trace
             (λ t. vec_len t < vec_capacity t → IsSome self.new.trace) }
     {
@@ -43,7 +46,7 @@ impl Traced {
         if let Some(trace) = &mut self.trace
             && trace.push(i).is_err()
         {
-            self.trace = None;
+            self.cut = self.trace.take();
         }
     }
 }
