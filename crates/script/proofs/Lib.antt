@@ -1,5 +1,5 @@
 -- Lemmas on tokens, decimals and calls.
-pub mod Cuts
+pub mod Runs
 pub mod Values
 pub mod Bodies
 pub mod Naming

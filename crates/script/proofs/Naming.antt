@@ -1,15 +1,12 @@
 -- The table gone over for a name, place by place.
-use Rattle.std.proofs.Common.{◌≡◌, ℕ, zero, suc, ◌+◌, ◌≤◌, Bool, true, false, ◌&&◌, List, [], ◌∷◌, drop, length, Some, None, Option, Ok, Err, Result, sym, subst, refl, ap, ◌∙◌, add-one, arith}
+use Rattle.std.proofs.Common.{◌≡◌, ℕ, zero, suc, ◌+◌, ◌≤◌, Bool, true, false, ◌&&◌, List, [], ◌∷◌, drop, length, Some, None, sym, subst, refl, ap, ◌∙◌, add-one, arith}
 use Rattle.std.specs.Str.{bytes_eq}
-use Rattle.std.specs.Option.{ok_or}
 use Rattle.std.proofs.lemmas.Slice.Eq.{bytes_eq-Decides}
 use Rattle.std.proofs.lemmas.Bool.{and_parts}
 use Rattle.mutator.specs.declared.Ask.{Ask}
 use Rattle.mutator.specs.declared.number.Number.{Number}
-use Rattle.mutator.specs.Table.{name, numbers, calls, named, call_at}
-use Rattle.script.specs.declared.error.LineError.{LineError}
-use Rattle.script.specs.declared.error.LineError.TheVariants.{UnknownCall}
-use Rattle.script.specs.Reading.{bind, reads, made_of, called}
+use Rattle.mutator.specs.Table.{name, calls, named, call_at}
+use Rattle.script.specs.Reading.{StandsAt}
 
 -- what stands at a place, and behind it
 record Here (fs : List (List Number → Ask)) (p : ℕ) (q : Ask) : Type 0 where
@@ -35,25 +32,12 @@ pass n p q h k e =
     h ∙ ap (named n) t.is ∙ g ∙ ap (λ (i : ℕ). named n (drop i calls)) (sym (add-one p))
 
 -- here it is
-called_here : (n : List ℕ) (p : ℕ) (q : Ask) (ts : List (List ℕ)) → Passed n p → call_at calls p [] ≡ Some q → bytes_eq n (name q) ≡ true → (r : Result (List Number) LineError) → reads [] (numbers q) ts ≡ r → called n ts ≡ bind r (λ ns. ok_or (call_at calls p ns) UnknownCall)
-called_here n p q ts h k e r s =
+pub stands : (n : List ℕ) (p : ℕ) (q : Ask) → Passed n p → call_at calls p [] ≡ Some q → bytes_eq n (name q) ≡ true → StandsAt n (Some p)
+stands n p q h k e =
     let t = here calls p q k in
     let f : bytes_eq n (name (t.make [])) ≡ true = ap (λ (x : Ask). bytes_eq n (name x)) t.bare ∙ e in
     let g : named n (t.make ∷ drop (suc p) calls) ≡ Some t.make = rw f in
-    ap (λ (o : Option (List Number → Ask)). made_of o ts) (h ∙ ap (named n) t.is ∙ g)
-    ∙ ap (λ (x : Ask). bind (reads [] (numbers x) ts) (λ ns. Ok (t.make ns))) t.bare
-    ∙ ap (λ (o : Result (List Number) LineError). bind o (λ ns. Ok (t.make ns))) s
-    ∙ by_result r
-  where
-    by_result : (o : Result (List Number) LineError) → bind o (λ ns. Ok ((here calls p q k).make ns)) ≡ bind o (λ ns. ok_or (call_at calls p ns) UnknownCall)
-    by_result (Ok ns) = ap (λ (x : Option Ask). ok_or x UnknownCall) (sym ((here calls p q k).at ns))
-    by_result (Err x) = refl
-
-pub called_ok : (n : List ℕ) (p : ℕ) (q : Ask) (ts : List (List ℕ)) (ns : List Number) → Passed n p → call_at calls p [] ≡ Some q → bytes_eq n (name q) ≡ true → Ok ns ≡ reads [] (numbers q) ts → ok_or (call_at calls p ns) UnknownCall ≡ called n ts
-called_ok n p q ts ns h k e s = sym (called_here n p q ts h k e (Ok ns) (sym s))
-
-pub called_err : (n : List ℕ) (p : ℕ) (q : Ask) (ts : List (List ℕ)) (x : LineError) → Passed n p → call_at calls p [] ≡ Some q → bytes_eq n (name q) ≡ true → Err x ≡ reads [] (numbers q) ts → Err x ≡ called n ts
-called_err n p q ts x h k e s = sym (called_here n p q ts h k e (Err x) (sym s))
+    (t.make, h ∙ ap (named n) t.is ∙ g, t.at)
 
 -- it is nowhere
 none_at : (n : List ℕ) (fs : List (List Number → Ask)) (p : ℕ) → call_at fs p [] ≡ None → named n (drop p fs) ≡ None
@@ -62,16 +46,16 @@ none_at n [] (suc p) h = refl
 none_at n (f ∷ fs) zero h = let o : ◌≡◌ {A = ℕ} 0 1 = cc in absurd (omega arith)
 none_at n (f ∷ fs) (suc p) h = none_at n fs p h
 
-pub called_none : (n : List ℕ) (p : ℕ) (ts : List (List ℕ)) → Passed n p → call_at calls p [] ≡ None → Err UnknownCall ≡ called n ts
-called_none n p ts h k = sym (ap (λ (o : Option (List Number → Ask)). made_of o ts) (h ∙ none_at n calls p k))
+pub nowhere : (n : List ℕ) (p : ℕ) → Passed n p → call_at calls p [] ≡ None → StandsAt n None
+nowhere n p h k = h ∙ none_at n calls p k
 
 past : (fs : List (List Number → Ask)) (p : ℕ) → length fs ≤ p → call_at fs p [] ≡ None
 past [] p l = refl
 past (f ∷ fs) zero l = absurd (omega arith)
 past (f ∷ fs) (suc p) l = past fs p (omega arith)
 
-pub called_past : (n : List ℕ) (p : ℕ) (ts : List (List ℕ)) → Passed n p → length calls ≤ p → Err UnknownCall ≡ called n ts
-called_past n p ts h l = called_none n p ts h (past calls p l)
+pub nowhere_past : (n : List ℕ) (p : ℕ) → Passed n p → length calls ≤ p → StandsAt n None
+nowhere_past n p h l = nowhere n p h (past calls p l)
 
 -- what each name of the table passes, a name that is found passes
 abbrev pub all_names : (List ℕ → Bool) → List (List Number → Ask) → Bool

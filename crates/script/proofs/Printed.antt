@@ -13,7 +13,7 @@ use Rattle.script.specs.Text.{spaced, call_text}
 use Rattle.script.specs.Tokens.{blank, pieces, filled, tokens}
 use Rattle.script.specs.Reading.{body}
 use Rattle.script.specs.Spelling.{WriteAll, AllWithin, Fits, Spells, ReadsBack}
-use Rattle.script.proofs.Cuts.{Dense, filled_some, word_first}
+use Rattle.script.proofs.Runs.{Dense, filled_some, word_first}
 use Rattle.script.proofs.Values.{own}
 use Rattle.script.proofs.Naming.{named_passes}
 use Rattle.script.proofs.Spelt.{reads_what_is_spelt, reads_lines}

@@ -1,10 +1,10 @@
 -- How a line is read: its first token is the name of a call, the others are the numbers, read from the left.
-use Rattle.std.specs.Prelude.{ℕ, ◌-◌, ◌^◌, Bool, true, false, cond, ◌||◌, List, [], ◌∷◌, ◌++◌, Some, None, Option, Ok, Err, Result, ◌==◌, slice_index}
+use Rattle.std.specs.Prelude.{◌≡◌, ℕ, ◌-◌, ◌^◌, Bool, true, false, cond, ◌||◌, List, [], ◌∷◌, ◌++◌, Some, None, Option, Ok, Err, Result, ◌==◌, slice_index}
 use Rattle.std.specs.Borrow.{Bor}
 use Rattle.mutator.specs.declared.Ask.{Ask}
 use Rattle.mutator.specs.declared.number.Number.{Number}
 use Rattle.mutator.specs.Numbers.{most, like}
-use Rattle.mutator.specs.Table.{numbers, calls, named}
+use Rattle.mutator.specs.Table.{numbers, calls, named, call_at}
 use Rattle.script.specs.declared.error.LineError.{LineError}
 use Rattle.script.specs.declared.error.LineError.TheVariants.{UnknownCall, TooFewNumbers, TooManyNumbers, NumberTooLarge, WordsTooLarge}
 use Rattle.script.specs.declared.read.HeapSize.{HeapSize}
@@ -38,6 +38,13 @@ reads front (k ∷ ks) ts = bind (next_like k ts) (λ p. reads (front ++ p.0 ∷
 abbrev pub seen : {A : Type 0} →
     Result (A × Bor (List ℕ)) LineError → Result (A × List (List ℕ)) LineError
 seen r = bind r (λ p. Ok (p.0, tokens p.1.now))
+
+-- where in the table the call with this name is made, if there is one
+abbrev pub StandsAt : List ℕ → Option ℕ → Type 0
+StandsAt n None = named n calls ≡ None
+StandsAt n (Some p) =
+    (f : List Number → Ask)
+    × (named n calls ≡ Some f) × ((ns : List Number) → call_at calls p ns ≡ Some (f ns))
 
 -- the call with this name, of the numbers in these tokens
 abbrev pub made_of : Option (List Number → Ask) → List (List ℕ) → Result Ask LineError

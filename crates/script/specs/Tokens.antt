@@ -1,5 +1,6 @@
 -- The tokens of a line: its longest runs without a space or a tab.
-use Rattle.std.specs.Prelude.{ℕ, Bool, cond, ◌||◌, List, [], ◌∷◌, ◌==◌}
+use Rattle.std.specs.Prelude.{ℕ, suc, Bool, cond, ◌||◌, List, [], ◌∷◌, ◌==◌}
+use Rattle.std.specs.Bool.{beq}
 
 abbrev pub blank : ℕ → Bool
 blank c = c == 32 || c == 9
@@ -20,3 +21,8 @@ filled ((c ∷ p) ∷ ps) = (c ∷ p) ∷ filled ps
 
 abbrev pub tokens : List ℕ → List (List ℕ)
 tokens line = filled (pieces line)
+
+-- how many bytes at the front are blanks (true), or are none (false)
+abbrev pub run : Bool → List ℕ → ℕ
+run b [] = 0
+run b (c ∷ cs) = cond (beq (blank c) b) (suc (run b cs)) 0

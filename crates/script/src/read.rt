@@ -1,7 +1,7 @@
 // Lines of a script as calls. A line is taken apart once.
 ghost use Rattle.std.specs.Prelude.{◌≡◌, ◌<◌, [], ◌∷◌, true, false, length, MatchOption};
 ghost use Rattle.script.specs.Tokens.{tokens};
-ghost use Rattle.script.specs.Reading.{body as body_of, call_of, called, heap_size_of, line_of, opening_of, passed_over, sized};
+ghost use Rattle.script.specs.Reading.{StandsAt, body as body_of, call_of, called, heap_size_of, line_of, opening_of, passed_over, sized};
 
 use crate::error::LineError;
 use crate::numbers::number;
@@ -46,21 +46,29 @@ fn first_token(line: &str) -> Option<(&str, &str)>
     split_line(line)
 }
 
+// The place in the table of the call with this name. Apart from reading its numbers, so that each step compares names alone.
+fn place_of(name: &str) -> Option<usize>
+    ensures { StandsAt name.now result }
+{
+    for place in 0..CALLS {
+        let Some(ask) = Ask::made(place, Numbers::Zero) else {
+            return None;
+        };
+        if name == ask.entry().name {
+            return Some(place);
+        }
+    }
+    None
+}
+
 // The call with this name, of the numbers in the rest of its line.
 fn named_call(name: &str, rest: &str) -> Result<Ask, LineError>
     ensures { result ≡ called name.now (tokens rest.now) }
 {
-    for place in 0..CALLS {
-        let Some(ask) = Ask::made(place, Numbers::Zero) else {
-            return Err(LineError::UnknownCall);
-        };
-        let entry = ask.entry();
-        if name == entry.name {
-            let numbers = numbers_like(entry.numbers, rest)?;
-            return Ask::made(place, numbers).ok_or(LineError::UnknownCall);
-        }
-    }
-    Err(LineError::UnknownCall)
+    let place = place_of(name).ok_or(LineError::UnknownCall)?;
+    let ask = Ask::made(place, Numbers::Zero).ok_or(LineError::UnknownCall)?;
+    let numbers = numbers_like(ask.entry().numbers, rest)?;
+    Ask::made(place, numbers).ok_or(LineError::UnknownCall)
 }
 
 // How many words and slots there are, of the first token and the rest of the line.
