@@ -40,7 +40,7 @@ impl Tally {
         calls
             .iter()
             .zip(touches)
-            .filter(|(ask, _)| ask.entry().name == kind.name)
+            .filter(|(ask, _)| kind.is_of(ask))
             .fold(Tally::default(), |tally, (_, touched)| tally.add(*touched))
     }
 
