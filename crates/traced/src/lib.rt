@@ -7,13 +7,14 @@ ghost use Rattle.traced.specs.Trace.{Noted};
 use std::alloc::Global;
 use words::Words;
 
-// A row of words, how often one was touched, and which, in order and with repeats, so a list; once there was no memory for
-// it there is no trace, but what it was until then.
+// A row of words, how often one was touched, and which, in order and with repeats, so a list.
 #[derive(Drop)]
 pub struct Traced {
     pub words: Vec<u64>,
     pub count: u64,
+    // none once there was no memory for it
     pub trace: Option<Vec<usize>>,
+    // and what it was until then
     pub cut: Option<Vec<usize>>,
 }
 
